@@ -1,0 +1,26 @@
+-- What trays and loose pieces mean, and which can be made from outside numbers.
+use mathlib.Core.Bool.{cond}
+use Prim.Native.Nat.{ℕ}
+use lib.Dec.{leb}
+use lib.IntN.{ℤ, pos, _+ℤ_, _*ℤ_}
+use Rattle.std.specs.declared.result.Result.{Result}
+use Rattle.std.specs.declared.result.Result.the-variants.{Ok, Err}
+use Rattle.refusal.specs.declared.Refusal.{Refusal}
+use Rattle.refusal.specs.declared.Refusal.the-variants.{OverLimit, UnevenTray}
+use Rattle.amount.specs.Range.{inside, figure}
+use Rattle.amount.specs.declared.trays.Trays.{Trays}
+
+abbrev pub trayLimit : ℕ
+trayLimit = 24000000
+
+-- t trays of 24 and l loose pieces
+abbrev pub inPieces : ℤ → ℕ → ℤ
+inPieces t l = t *ℤ pos 24 +ℤ pos l
+
+-- trays mean their pieces; with more than 23 loose they mean nothing
+abbrev pub pieces : Trays → ℤ
+pieces t = cond (leb (t .loose) 23) (figure trayLimit (inPieces (t .trays) (t .loose))) (pos 0)
+
+-- the amount made from t trays and l loose pieces
+abbrev pub traysMade : ℤ → ℕ → Result ℤ Refusal
+traysMade t l = cond (inside trayLimit (inPieces t l)) (cond (leb l 23) (Ok (inPieces t l)) (Err UnevenTray)) (Err OverLimit)

@@ -1,0 +1,40 @@
+-- The table of refusals: each case with its number and when it strikes.
+use Prim.Native.Nat.{ℕ}
+use Rattle.refusal.specs.declared.Refusal.{Refusal}
+use Rattle.refusal.specs.declared.Refusal.the-variants.{UnfitShelf, BadFigures, OverLimit, Trading, BinsFull, BatchActive, OldNumber, QueueFull, StrangeToken, NoSuchBin, NothingAsked, AskedAlready, BatchFull, NotItsTurn, UnknownBatch, UnevenTray, Unreadable}
+
+abbrev pub numberOf : Refusal → ℕ
+-- any call: at opening the shelf had capacities outside the limits, or held something
+numberOf UnfitShelf = 1
+-- lay: the floor above the ceiling, or the start outside them
+numberOf BadFigures = 2
+-- an amount outside -L to L
+numberOf OverLimit = 3
+-- lay after the first accepted begin
+numberOf Trading = 4
+-- lay with every bin place used
+numberOf BinsFull = 5
+-- begin while a batch is active
+numberOf BatchActive = 6
+-- begin with a number not above the last
+numberOf OldNumber = 7
+-- begin with 64 closed batches in the queue
+numberOf QueueFull = 8
+-- a token of another house, number or state than the active batch's
+numberOf StrangeToken = 9
+-- no bin has this number
+numberOf NoSuchBin = 10
+-- an ask for zero
+numberOf NothingAsked = 11
+-- an ask in a bin in which the batch holds a grant
+numberOf AskedAlready = 12
+-- an ask of a batch that holds 16 grants
+numberOf BatchFull = 13
+-- keep or undo of a closed batch that is not the oldest
+numberOf NotItsTurn = 14
+-- keep or undo of a batch that is not in the queue
+numberOf UnknownBatch = 15
+-- more loose pieces than fill a tray
+numberOf UnevenTray = 16
+-- a line that is no legal form, with its place
+numberOf (Unreadable place) = 17
