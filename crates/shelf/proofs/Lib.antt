@@ -1,0 +1,4 @@
+pub mod Laws
+pub mod Lowest
+pub mod Changes
+pub mod InPlace
