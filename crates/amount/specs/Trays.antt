@@ -2,7 +2,8 @@
 use mathlib.Core.Bool.{cond}
 use Prim.Native.Nat.{ℕ}
 use lib.Dec.{leb}
-use lib.IntN.{ℤ, pos, _+ℤ_, _*ℤ_}
+use lib.IntN.{ℤ, pos, natAbs, _+ℤ_, _*ℤ_}
+use Rattle.std.specs.Numbers.{divEuclid, remEuclid}
 use Rattle.std.specs.declared.result.Result.{Result}
 use Rattle.std.specs.declared.result.Result.the-variants.{Ok, Err}
 use Rattle.refusal.specs.declared.Refusal.{Refusal}
@@ -20,6 +21,13 @@ inPieces t l = t *ℤ pos 24 +ℤ pos l
 -- trays mean their pieces; with more than 23 loose they mean nothing
 abbrev pub pieces : Trays → ℤ
 pieces t = cond (leb (t .loose) 23) (figure trayLimit (inPieces (t .trays) (t .loose))) (pos 0)
+
+-- the full trays and the loose pieces of a number of pieces, divided downwards
+abbrev pub fullTrays : ℤ → ℤ
+fullTrays z = divEuclid z (pos 24)
+
+abbrev pub loosePieces : ℤ → ℕ
+loosePieces z = natAbs (remEuclid z (pos 24))
 
 -- the amount made from t trays and l loose pieces
 abbrev pub traysMade : ℤ → ℕ → Result ℤ Refusal

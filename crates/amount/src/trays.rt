@@ -2,7 +2,7 @@
 ghost use mathlib.Core.Path.{_≡_};
 ghost use mathlib.Core.Bool.{true};
 ghost use Rattle.amount.specs.Range.{inside, made};
-ghost use Rattle.amount.specs.Trays.{trayLimit, pieces, traysMade};
+ghost use Rattle.amount.specs.Trays.{trayLimit, pieces, fullTrays, loosePieces, traysMade};
 use crate::Amount;
 use crate::bounds::lies_within;
 use crate::bounds::sum_within;
@@ -51,7 +51,16 @@ impl Trays {
         if self.loose <= LOOSE && lies_within(n, 2 * LIMIT) { n } else { 0 }
     }
 
-    // The trays that mean n, divided downwards so that loose is never negative.
+    // The full trays and the loose pieces that are meant, divided downwards so that loose is never negative.
+    pub fn split(self) -> (i64, u32)
+        ensures full { λ r. ⌜ r .0 ≡ fullTrays (pieces self) ⌝ }
+        ensures loose { λ r. ⌜ r .1 ≡ loosePieces (pieces self) ⌝ }
+    {
+        let n = self.number();
+        (n.div_euclid(TRAY), n.rem_euclid(TRAY) as u32)
+    }
+
+    // The trays that mean n.
     fn of_number(n: i64) -> Trays
         requires { ⌜ inside 48000000 n ≡ true ⌝ }
         ensures { λ r. ⌜ pieces r ≡ n ⌝ }

@@ -1,5 +1,8 @@
--- The table of refusals: each case with its number and when it strikes.
+-- The table of refusals: each case with its number and when it strikes, and how it is answered.
+use mathlib.Core.List.{List, _++_}
 use Prim.Native.Nat.{ℕ}
+use lib.Chars.{codes}
+use Rattle.std.specs.Written.{decimal}
 use Rattle.refusal.specs.declared.Refusal.{Refusal}
 use Rattle.refusal.specs.declared.Refusal.the-variants.{UnfitShelf, BadFigures, OverLimit, Trading, BinsFull, BatchActive, OldNumber, QueueFull, StrangeToken, NoSuchBin, NothingAsked, AskedAlready, BatchFull, NotItsTurn, UnknownBatch, UnevenTray, Unreadable}
 
@@ -38,3 +41,27 @@ numberOf UnknownBatch = 15
 numberOf UnevenTray = 16
 -- a line that is no legal form, with its place
 numberOf (Unreadable place) = 17
+
+-- the place of a refusal that has one
+abbrev pub placeText : Refusal → List ℕ
+placeText (Unreadable place) = codes " (at " ++ (decimal place ++ codes "))")
+placeText UnfitShelf = codes ")"
+placeText BadFigures = codes ")"
+placeText OverLimit = codes ")"
+placeText Trading = codes ")"
+placeText BinsFull = codes ")"
+placeText BatchActive = codes ")"
+placeText OldNumber = codes ")"
+placeText QueueFull = codes ")"
+placeText StrangeToken = codes ")"
+placeText NoSuchBin = codes ")"
+placeText NothingAsked = codes ")"
+placeText AskedAlready = codes ")"
+placeText BatchFull = codes ")"
+placeText NotItsTurn = codes ")"
+placeText UnknownBatch = codes ")"
+placeText UnevenTray = codes ")"
+
+-- as it is answered
+abbrev pub refusalText : Refusal → List ℕ
+refusalText why = codes "(refused " ++ (decimal (numberOf why) ++ placeText why)

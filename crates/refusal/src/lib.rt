@@ -1,9 +1,11 @@
 // Why a call is refused: one table for every layer.
 ghost use mathlib.Core.Path.{_≡_};
-ghost use Rattle.refusal.specs.Table.{numberOf};
+ghost use Rattle.std.specs.declared.option.Option.the-variants.{Some};
+ghost use Rattle.refusal.specs.Table.{numberOf, refusalText};
+use std::fmt;
 
 // A refusal, named by what is wrong; a refused call changes nothing.
-#[derive(Clone, Copy, PartialEq, Debug)]
+#[derive(Clone, Copy, Debug)]
 pub enum Refusal {
     UnfitShelf,
     BadFigures,
@@ -47,6 +49,19 @@ impl Refusal {
             Refusal::UnknownBatch => 15,
             Refusal::UnevenTray => 16,
             Refusal::Unreadable { place: _ } => 17,
+        }
+    }
+}
+
+// As it is answered; an unreadable line with the place where it fails.
+pub impl fmt::Display for Refusal as RefusalDisplay {
+    ghost shown = { λ x. Some (refusalText x) };
+
+    fn fmt<W: fmt::Write>(&self, f: &mut fmt::Formatter<W>) -> fmt::Result {
+        let number = self.number();
+        match self {
+            Refusal::Unreadable { place } => write!(f, "(refused {number} (at {place}))"),
+            _ => write!(f, "(refused {number})"),
         }
     }
 }

@@ -1,0 +1,13 @@
+pub mod Faults
+pub mod Numbers
+pub mod Pieces
+pub mod Patterns
+pub mod Sofar
+pub mod Puts
+pub mod Along
+pub mod Fitting
+pub mod Counts
+pub mod Entries
+pub mod Tries
+pub mod Once
+pub mod Splits

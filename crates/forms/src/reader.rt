@@ -1,0 +1,53 @@
+// Calls read from lines.
+ghost use mathlib.Core.Path.{_≡_};
+ghost use Rattle.std.specs.Results.{Cases};
+ghost use Rattle.forms.specs.Calls.{Reads, Legal};
+ghost use Rattle.forms.specs.Faults.{Fault};
+ghost use Rattle.forms.specs.Laws.{OneLine};
+ghost use Rattle.forms.specs.Words.{cuts, spans, texts};
+use super::Unreadable;
+use super::calls::Call;
+use super::calls::Kind;
+use super::scan::scan;
+use super::split::Words;
+use super::split::split;
+use super::table::call_of;
+use super::table::forms;
+use super::table::pattern;
+
+// A call, and the words of its line.
+#[derive(Clone, Copy)]
+pub struct Reading<'a> {
+    pub call: Call,
+    pub words: Words<'a>,
+}
+
+// The call that the line makes: the forms are tried in turn, and a fault stands where the one that gets furthest fails.
+fn call_in(opened: Option<Kind>, line: &[u8]) -> Result<Call, Unreadable>
+    ensures { λ r. ⌜ Cases r (λ c. Reads opened (now (line .entry)) c) (λ e. Fault (Legal opened) (now (line .entry)) (e .place)) ⌝ }
+{
+    let mut place = 0;
+    for form in forms(opened) {
+        match scan(pattern(*form), line) {
+            Ok(fields) => return Ok(call_of(*form, &fields)),
+            Err(e) => {
+                if place < e.place {
+                    place = e.place;
+                }
+            }
+        }
+    }
+    Err(Unreadable { place })
+}
+
+// Reads a line. `opened` is the kind of the house, once it is open.
+pub fn read<'a>(opened: Option<Kind>, line: &'a [u8]) -> Result<Reading<'a>, Unreadable>
+    ensures cases { λ r. ⌜ Cases r
+        (λ g. Reads opened (now (line .entry)) (g .call) × (texts (g .words) ≡ cuts (now (line .entry)) (spans (now (line .entry)))))
+        (λ e. Fault (Legal opened) (now (line .entry)) (e .place)) ⌝ }
+    ensures back { λ r. ⌜ ((c : Call) → Reads opened (now (line .entry)) c → Cases r (λ g. g .call ≡ c) (λ _. ⊥)) ⌝ }
+    ensures law { λ _. ⌜ OneLine opened ⌝ }
+{
+    let call = call_in(opened, line)?;
+    Ok(Reading { call, words: split(line) })
+}

@@ -1,0 +1,5 @@
+// The runner: one line in, one answer out.
+
+pub mod answer;
+mod kind;
+mod text;
