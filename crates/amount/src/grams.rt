@@ -10,7 +10,7 @@ use refusal::Refusal;
 // The limit L of grams.
 const LIMIT: u64 = 1_000_000_000_000;
 
-#[derive(Clone, Copy)]
+#[derive(Clone, Copy, Default)]
 pub struct Grams {
     grams: i64,
 }

@@ -20,7 +20,7 @@ const FAR: u64 = 200_000_000_000_000_000;
 // The most loose pieces beside full trays.
 const LOOSE: u8 = 23;
 
-#[derive(Clone, Copy)]
+#[derive(Clone, Copy, Default)]
 pub struct Trays {
     trays: i32,
     loose: u8,

@@ -105,7 +105,7 @@ length-signed limit false (negsuc n) l h = absurd h
 short-step : (q : Piece) (ps : List Piece) (vs : List ℤ) (k : ℕ) → Small q → Fits (q ∷ ps) vs → ((ws : List ℤ) → Fits ps ws → length (fill ps ws) ≤ k) → length (fill (q ∷ ps) vs) ≤ 19 + k
 short-step (text b) ps vs k h f ih = omega (arith, ih vs f)
 short-step (number limit minus) ps [] k h f ih = absurd f
-short-step (number limit minus) ps (v ∷ vs) k h f ih = omega (arith, length-append (signed v) (fill ps vs), length-signed limit minus v h (f .0), ih vs (f .1))
+short-step (number limit minus) ps (v ∷ vs) k h f ih = omega (arith, length-append (signed v) (fill ps vs), length-signed limit minus v (h .1) (f .0), ih vs (f .1))
 
 pub line-short : (pattern : List ℕ) (vs : List ℤ) → Fits (pieces pattern) vs → length (fill (pieces pattern) vs) ≤ 19 * length pattern
 line-short [] vs f = zero-le

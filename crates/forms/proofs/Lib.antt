@@ -10,4 +10,5 @@ pub mod Counts
 pub mod Entries
 pub mod Tries
 pub mod Once
+pub mod Readings
 pub mod Splits

@@ -17,8 +17,7 @@ use Rattle.forms.specs.declared.calls.Kind.{Kind}
 use Rattle.forms.specs.declared.calls.Kind.the-variants.{Grams, Trays}
 use Rattle.forms.specs.declared.calls.Call.{Call}
 use Rattle.forms.specs.declared.table.Form.{Form}
-use Rattle.forms.specs.Calls.{written, Allowed, Reads}
-use Rattle.forms.specs.Laws.{ReadsBack, OneLine}
+use Rattle.forms.specs.Calls.{written, Allowed}
 use Rattle.forms.specs.Numbers.{GoesOn}
 use Rattle.forms.specs.Patterns.{Piece, text, number, pieces, Suits, Fits, fill, Breaks, Sound}
 use Rattle.forms.specs.Table.{patternOf, formsOf, formAt, formOf, valuesOf, callOf}
@@ -140,9 +139,3 @@ once opened c d p q e = elim (decLe (suc (p .legal .place)) (q .legal .place)) [
         let g = subst (λ x. Fits (pieces (patternOf x)) (valuesOf d)) (sym f) (q .fits) in
         let v = values-same (pieces (patternOf (formOf c))) (valuesOf c) (valuesOf d) (sound (formOf c)) (all-small (patternOf (formOf c))) (p .fits) g (e ∙ ap (λ x. fill (pieces (patternOf x)) (valuesOf d)) (sym f)) in
         sym (call-back c (p .fits)) ∙ (λ i. callOf (f i) (v i)) ∙ call-back d (q .fits)
-
-pub reads-back : (opened : Option Kind) → ReadsBack opened
-reads-back opened c a = ((a, refl), λ d r. once opened d c (r .0) a (sym (r .1)))
-
-pub one-line : (opened : Option Kind) → OneLine opened
-one-line opened c line r = (r .1, λ other q. q .1 ∙ sym (r .1))

@@ -52,8 +52,8 @@ text-on b ps s n f = onward (Lines (text b ∷ ps)) (Lines ps) (b ∷ []) s (λ 
     tail-of : {u w : List ℕ} → b ∷ u ≡ b ∷ w → u ≡ w
     tail-of e = cc
 
-pub text-stops : (b : ℕ) (ps : List Piece) (s : List ℕ) → b < 256 → (first s ≡ b → ⊥) → Fault (Lines (text b ∷ ps)) s 0
-text-stops b ps s small h = stuck (Lines (text b ∷ ps)) [] s (_, some-line (text b ∷ ps)) (λ u e l. h (sym e ∙ ap first (l .2)))
+pub text-stops : (b : ℕ) (ps : List Piece) (s : List ℕ) → (first s ≡ b → ⊥) → Fault (Lines (text b ∷ ps)) s 0
+text-stops b ps s h = stuck (Lines (text b ∷ ps)) [] s (_, some-line (text b ∷ ps)) (λ u e l. h (sym e ∙ ap first (l .2)))
 
 module _ (limit : ℕ) (minus : Bool) (small : limit < 2 ^ 64) (ps : List Piece) where
   pub number-on : (z : ℤ) (s : List ℕ) (n : ℕ) → Breaks ps → Suits limit minus z → (GoesOn limit z (first s) → ⊥)

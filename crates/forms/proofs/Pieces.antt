@@ -8,6 +8,7 @@ use lib.Dec.{eqb}
 use lib.ListN.{length, drop, getD}
 use borrow.Author.Tests.{ne-eqb}
 use Rattle.std.proofs.shelf.Lists.{drop-more, drop-all, drop-map}
+use Rattle.forms.specs.Numbers.{Limit}
 use Rattle.forms.specs.Patterns.{Piece, text, number, pieceOf, pieces, largestCount, largestAmount}
 
 pub piece-at : (pattern : List ℕ) (i : ℕ) (q : Piece) → i < length pattern → pieceOf (getD pattern i 0) ≡ q → drop i (pieces pattern) ≡ q ∷ drop (i + 1) (pieces pattern)
@@ -22,17 +23,17 @@ piece-text b p q =
     ap (λ t. cond t (number largestCount false) (cond (eqb b 37) (number largestAmount true) (text b))) (ne-eqb b 35 p)
     ∙ ap (λ t. cond t (number largestAmount true) (text b)) (ne-eqb b 37 q)
 
--- a number has no more than 18 digits
+-- a number takes every digit, and no more than 18 of them
 abbrev pub Small : Piece → Type 0
 Small (text b) = Unit {0}
-Small (number limit minus) = limit ≤ largestAmount
+Small (number limit minus) = Limit limit
 
 pub small-piece : (b : ℕ) → Small (pieceOf b)
 small-piece b = go (eqb b 35) (eqb b 37)
   where
     go : (s t : Bool) → Small (cond s (number largestCount false) (cond t (number largestAmount true) (text b)))
-    go true t = omega arith
-    go false true = omega arith
+    go true t = (omega arith, omega arith)
+    go false true = (omega arith, omega arith)
     go false false = tt
 
 abbrev pub AllSmall : List Piece → Type 0

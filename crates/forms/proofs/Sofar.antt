@@ -39,8 +39,8 @@ module _ (all : List Piece) (xs : List ℕ) where
     joins = λ ws f h. s .joins ws f (e ∙ ap (λ t. b ∷ t) h);
   }
 
-  pub text-fails : (b : ℕ) (rest : List Piece) (at : ℕ) (vs : List ℤ) → b < 256 → (first (drop at xs) ≡ b → ⊥) → Sofar all xs (text b ∷ rest) at vs → Fault (Lines all) xs at
-  text-fails b rest at vs small h s = subst (λ m. Fault (Lines all) xs m) (omega arith) (s .lifts 0 (text-stops b rest (drop at xs) small h))
+  pub text-fails : (b : ℕ) (rest : List Piece) (at : ℕ) (vs : List ℤ) → (first (drop at xs) ≡ b → ⊥) → Sofar all xs (text b ∷ rest) at vs → Fault (Lines all) xs at
+  text-fails b rest at vs h s = subst (λ m. Fault (Lines all) xs m) (omega arith) (s .lifts 0 (text-stops b rest (drop at xs) h))
 
   pub number-more : (limit : ℕ) (minus : Bool) (rest : List Piece) (at end : ℕ) (z : ℤ) (vs : List ℤ) → limit < 2 ^ 64 → Found limit minus xs at end z
     → Sofar all xs (number limit minus ∷ rest) at vs → Sofar all xs rest end (vs ++ (z ∷ []))

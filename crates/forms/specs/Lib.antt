@@ -5,6 +5,7 @@ pub mod Writing
 pub mod Fields
 pub mod Table
 pub mod Calls
+pub mod Reading
 pub mod Laws
 pub mod Words
 pub mod Text

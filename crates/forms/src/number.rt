@@ -2,6 +2,7 @@
 ghost use mathlib.Core.Path.{_≡_};
 ghost use mathlib.Core.List.{List, _++_};
 ghost use mathlib.Core.Bool.{true, false};
+ghost use mathlib.Core.Logic.{_⊎_};
 ghost use Prim.Native.Nat.{ℕ, _+_, _-_, _*_, _<_, _≤_};
 ghost use lib.ListN.{length, getD, drop};
 ghost use Rattle.std.specs.Options.{Cases as BySome};
@@ -20,6 +21,17 @@ fn extended(v: u64, b: u8, limit: u64) -> Option<u64>
     }
     let w = 10 * v + u64::from(b - b'0');
     if w <= limit { Some(w) } else { None }
+}
+
+// Whether a digit from `least` on stands at `at`.
+fn digit_at(line: &[u8], at: usize, least: u8) -> bool
+    ensures yes { λ r. ⌜ (r ≡ true → (at < length (now (line .entry))) × (least ≤ getD (now (line .entry)) at 0) × (getD (now (line .entry)) at 0 < 58)) ⌝ }
+    ensures not { λ r. ⌜ (r ≡ false → (first (drop at (now (line .entry))) < least) ⊎ (58 ≤ first (drop at (now (line .entry))))) ⌝ }
+{
+    if at >= line.len() || line[at] < least {
+        return false;
+    }
+    line[at] <= b'9'
 }
 
 // The end and the value of the digits that begin at `at`.
@@ -52,7 +64,7 @@ fn unsigned_at(line: &[u8], at: usize, limit: u64, minus: bool) -> Result<(usize
     requires plain { ⌜ (minus ≡ true → first (drop at (now line)) ≡ 45 → ⊥) ⌝ }
     ensures { λ r. ⌜ Cases r (λ p. Found limit minus (now (line .entry)) at (p .0) (p .1)) (λ e. Missing limit minus (now (line .entry)) at (e .place)) ⌝ }
 {
-    if at >= line.len() || line[at] < b'0' || line[at] > b'9' {
+    if !digit_at(line, at, b'0') {
         return Err(Unreadable { place: at });
     }
     let (end, size) = digits(line, at, limit);
@@ -67,7 +79,7 @@ fn negative_at(line: &[u8], at: usize, limit: u64) -> Result<(usize, i64), Unrea
     ensures { λ r. ⌜ Cases r (λ p. Found limit true (now (line .entry)) at (p .0) (p .1)) (λ e. Missing limit true (now (line .entry)) at (e .place)) ⌝ }
 {
     let from = at + 1;
-    if from >= line.len() || line[from] < b'1' || line[from] > b'9' {
+    if !digit_at(line, from, b'1') {
         return Err(Unreadable { place: from });
     }
     let (end, size) = digits(line, from, limit);

@@ -1,9 +1,11 @@
 // Calls read from lines.
 ghost use mathlib.Core.Path.{_≡_};
 ghost use Rattle.std.specs.Results.{Cases};
+ghost use Rattle.std.specs.declared.result.Result.the-variants.{Ok, Err};
 ghost use Rattle.forms.specs.Calls.{Reads, Legal};
 ghost use Rattle.forms.specs.Faults.{Fault};
-ghost use Rattle.forms.specs.Laws.{OneLine};
+ghost use Rattle.forms.specs.Laws.{OneLine, OneCall, FaultPlace};
+ghost use Rattle.forms.specs.Reading.{readOf};
 ghost use Rattle.forms.specs.Words.{cuts, spans, texts};
 use super::Unreadable;
 use super::calls::Call;
@@ -42,11 +44,11 @@ fn call_in(opened: Option<Kind>, line: &[u8]) -> Result<Call, Unreadable>
 
 // Reads a line. `opened` is the kind of the house, once it is open.
 pub fn read<'a>(opened: Option<Kind>, line: &'a [u8]) -> Result<Reading<'a>, Unreadable>
-    ensures cases { λ r. ⌜ Cases r
-        (λ g. Reads opened (now (line .entry)) (g .call) × (texts (g .words) ≡ cuts (now (line .entry)) (spans (now (line .entry)))))
-        (λ e. Fault (Legal opened) (now (line .entry)) (e .place)) ⌝ }
-    ensures back { λ r. ⌜ ((c : Call) → Reads opened (now (line .entry)) c → Cases r (λ g. g .call ≡ c) (λ _. ⊥)) ⌝ }
-    ensures law { λ _. ⌜ OneLine opened ⌝ }
+    ensures value { λ r. ⌜ Cases r (λ g. readOf opened (now (line .entry)) ≡ Ok (g .call)) (λ e. readOf opened (now (line .entry)) ≡ Err (e .place)) ⌝ }
+    ensures words { λ r. ⌜ Cases r (λ g. texts (g .words) ≡ cuts (now (line .entry)) (spans (now (line .entry)))) (λ _. Unit {0}) ⌝ }
+    ensures line { λ _. ⌜ OneLine opened ⌝ }
+    ensures call { λ _. ⌜ OneCall opened ⌝ }
+    ensures place { λ _. ⌜ FaultPlace opened ⌝ }
 {
     let call = call_in(opened, line)?;
     Ok(Reading { call, words: split(line) })

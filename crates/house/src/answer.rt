@@ -1,6 +1,5 @@
-// What the runner answers to a line.
+// What the runner answers to a call.
 use forms::calls::Figures;
-use refusal::Refusal;
 
 // The floor and the ceiling of a bin.
 #[derive(Clone, Copy)]
@@ -22,5 +21,5 @@ pub enum Answer {
     Opened(u32),
     Laid(u32),
     Bin { bin: u32, limits: Limits, range: Range },
-    Refused(Refusal),
+    Refused(u32),
 }

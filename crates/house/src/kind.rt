@@ -7,14 +7,20 @@ ghost use Rattle.house.specs.Kinds.{makes, writes};
 use amount::Amount;
 use amount::grams::Grams;
 use amount::grams::GramsAmount;
+use amount::grams::GramsDefault;
 use amount::trays::Trays;
 use amount::trays::TraysAmount;
+use amount::trays::TraysDefault;
 use forms::calls::Figures;
+use forms::calls::Kind;
 use refusal::Refusal;
 
 // An amount that is made from outside numbers and written in them.
-pub trait Written: Amount {
+pub trait Written: Amount + Clone + Default {
     ghost kind: { Kind };
+
+    fn kind() -> Kind
+        ensures { λ r. ⌜ r ≡ kind ⌝ };
 
     // The amount that the figures write; figures of another kind write none.
     fn make(figures: Figures) -> Result<Self, Refusal>
@@ -26,6 +32,10 @@ pub trait Written: Amount {
 
 pub impl Written for Grams as GramsWritten {
     ghost kind = { kind.Grams };
+
+    fn kind() -> Kind {
+        Kind::Grams
+    }
 
     fn make(figures: Figures) -> Result<Grams, Refusal> {
         match figures {
@@ -41,6 +51,10 @@ pub impl Written for Grams as GramsWritten {
 
 pub impl Written for Trays as TraysWritten {
     ghost kind = { kind.Trays };
+
+    fn kind() -> Kind {
+        Kind::Trays
+    }
 
     fn make(figures: Figures) -> Result<Trays, Refusal> {
         match figures {

@@ -5,7 +5,6 @@ use crate::answer::Answer;
 use crate::answer::Limits;
 use crate::answer::Range;
 use forms::FiguresDisplay;
-use refusal::RefusalDisplay;
 use std::fmt;
 
 pub impl fmt::Display for Limits as LimitsDisplay {
@@ -34,7 +33,7 @@ pub impl fmt::Display for Answer as AnswerDisplay {
             Answer::Opened(house) => write!(f, "(opened {house})"),
             Answer::Laid(bin) => write!(f, "(laid {bin})"),
             Answer::Bin { bin, limits, range } => write!(f, "(bin {bin} {limits} {range})"),
-            Answer::Refused(why) => write!(f, "{why}"),
+            Answer::Refused(number) => write!(f, "(refused {number})"),
         }
     }
 }

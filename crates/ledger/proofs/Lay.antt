@@ -19,7 +19,7 @@ use Rattle.refusal.specs.declared.Refusal.the-variants.{UnfitShelf, BadFigures,
 use Rattle.shelf.specs.declared.records.Bin.{Bin}
 use Rattle.shelf.specs.Bins.{figuresIn}
 use Rattle.shelf.specs.Contents.{Figures, Contents, Sound, nth, binOf, fresh, withBins, canAdd, afterAdd}
-use Rattle.model.specs.Ledger.{State, Call, Answer, lay, report, refused, laid, shown, over, binAt, fitShelf, leastBins, mostBins, opens, withShelf, act, serve, first, step}
+use Rattle.model.specs.Ledger.{State, Call, Answer, lay, report, refused, laid, shown, over, binAt, fitCapacities, fitShelf, leastBins, mostBins, opens, withShelf, act, serve, first, step}
 use Rattle.model.specs.Run.{after, Reached}
 use Rattle.ledger.specs.Answers.{laidBy, shownBy}
 use Rattle.ledger.specs.Owed.{Owed}
@@ -31,7 +31,7 @@ never e = absurd (let z : _≡_ {A = ℕ} 0 1 = cc in omega arith)
 
 -- a fit ledger that calls have led somewhere has few bin places
 pub few-bins : (m : State) (cs : List Call) → Reached m cs → m .fit ≡ true → leb (m .shelf .binCapacity) mostBins ≡ true
-unfolding fitShelf
+unfolding fitShelf fitCapacities
 few-bins m cs r f =
     let s = r .0 in
     let same : setting m ≡ setting (opens (m .house) (m .limit) s) = ap setting (r .1 .1) ∙ after-stays (opens (m .house) (m .limit) s) cs in

@@ -1,4 +1,5 @@
 pub mod Meaning
 pub mod Answers
 pub mod Owed
+pub mod Requests
 pub mod Working

@@ -1,23 +1,23 @@
 // The tests that refuse a call.
 ghost use mathlib.Core.Path.{_≡_};
-ghost use Rattle.model.specs.Ledger.{fitShelf};
+ghost use Rattle.model.specs.Ledger.{fitCapacities, fitShelf};
 ghost use Rattle.ledger.specs.Working.{badFigures, overLimit};
 use crate::limits;
 use amount::Amount;
 use shelf::Shelf;
 
+// Whether a shelf with these capacities is within the limits.
+pub fn fits(bins: usize, grants: usize) -> bool
+    ensures { λ r. ⌜ r ≡ fitCapacities bins grants ⌝ }
+{
+    (bins >= limits::LEAST_BINS) & (bins <= limits::MOST_BINS) & (grants >= limits::LEAST_GRANTS) & (grants <= limits::MOST_GRANTS)
+}
+
 // Whether a ledger can work on the shelf: its capacities lie within the limits, and it holds nothing.
 pub(crate) fn is_fit<S: Shelf>(shelf: &S) -> bool
     ensures { λ r. ⌜ r ≡ fitShelf (S·Shelf .contents (now (shelf .entry))) ⌝ }
 {
-    let bins = shelf.bin_capacity();
-    let grants = shelf.grant_capacity();
-    (bins >= limits::LEAST_BINS)
-        & (bins <= limits::MOST_BINS)
-        & (grants >= limits::LEAST_GRANTS)
-        & (grants <= limits::MOST_GRANTS)
-        & (shelf.bin_count() == 0)
-        & (shelf.grant_count() == 0)
+    fits(shelf.bin_capacity(), shelf.grant_capacity()) & (shelf.bin_count() == 0) & (shelf.grant_count() == 0)
 }
 
 // Whether the floor lies above the ceiling, or the start outside them.

@@ -92,12 +92,13 @@ pub data Answer : Type 0 where
 
 -- ---- opening
 
--- the capacities lie within the limits, and nothing is held
+-- the capacities lie within the limits
+unfoldable pub fitCapacities : ℕ → ℕ → Bool
+fitCapacities bins grants = leb leastBins bins && leb bins mostBins && leb leastGrants grants && leb grants mostGrants
+
+-- they do, and nothing is held
 unfoldable pub fitShelf : Contents → Bool
-fitShelf s =
-    leb leastBins (s .binCapacity) && leb (s .binCapacity) mostBins
-    && leb leastGrants (s .grantCapacity) && leb (s .grantCapacity) mostGrants
-    && eqb (length (s .bins)) 0 && eqb (s .held) 0
+fitShelf s = fitCapacities (s .binCapacity) (s .grantCapacity) && eqb (length (s .bins)) 0 && eqb (s .held) 0
 
 abbrev pub opens : ℕ → ℕ → Contents → State
 opens house limit s = record { house = house; limit = limit; fit = fitShelf s; last = 0; shelf = s; queue = []; active = vacant }

@@ -5,7 +5,8 @@ use Rattle.std.proofs.shelf.Results.{err-from-errBy}
 use Rattle.forms.specs.Table.{formOf, valuesOf}
 use Rattle.forms.specs.Words.{mostWords, spans}
 use Rattle.forms.proofs.Entries.{few-words}
-use Rattle.forms.proofs.Once.{once, one-line}
+use Rattle.forms.proofs.Once.{once}
+use Rattle.forms.proofs.Readings.{same-call, same-fault, one-line, fault-place}
 use Rattle.forms.proofs.reader.read.Needs as need
 
 pub split-requires : need.split-requires
@@ -15,12 +16,22 @@ split-requires c κs =
     subst (λ s. length (spans s) ≤ mostWords) (sym (r .1)) (few-words (formOf call) (valuesOf call) (r .0 .fits))
 
 pub returns : need.returns
-returns c =
-    let r = c .in-Continue-call .ensures tt in
-    record { cases = (r, c .split .ensures); back = λ d q. once (c .args .opened) (c .in-Continue-call .call) d (r .0) (q .0) (sym (r .1) ∙ q .1); law = one-line (c .args .opened) }
+returns c = record {
+  value = same-call (c .args .opened) (c .args .line .now) (c .in-Continue-call .call) (c .in-Continue-call .ensures tt);
+  words = c .split .ensures;
+  line = one-line (c .args .opened);
+  call = once (c .args .opened);
+  place = fault-place (c .args .opened);
+}
 
 pub returns-in-Break-call : need.returns-in-Break-call
 returns-in-Break-call c =
     let p = err-from-errBy (c .from-residual .result) (c .from-residual .ensures .1) in
-    let f = c .in-Break-call .ensures tt in
-    record { cases = rw (p .1, p .2) f; back = λ d q. absurd (f .none (d, q)); law = one-line (c .args .opened) }
+    let f = same-fault (c .args .opened) (c .args .line .now) _ (c .in-Break-call .ensures tt) in
+    record {
+      value = rw (p .1, p .2) f;
+      words = rw (p .1) tt;
+      line = one-line (c .args .opened);
+      call = once (c .args .opened);
+      place = fault-place (c .args .opened);
+    }

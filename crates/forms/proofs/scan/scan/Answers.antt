@@ -35,7 +35,7 @@ returns-in-Break-text c =
     let s = at-piece (c .args .pattern .now) (c .args .line .now) (c .loop-p .p-index) _ _ _ (omega arith) (c .in-None .ensures tt) (c .loop-p .inv .0) in
     let n = c .in-Break-text .ensures tt .next in
     let h = subst (λ xs. first (drop (c .loop-p .cursor .at) xs) ≡ getD (c .args .pattern .now) (c .loop-p .p-index) 0 → ⊥) (c .loop-p .inv .1) (n .1) in
-    rw (p .1, p .2, n .0) (text-fails _ _ _ _ _ _ (omega (arith, c .typed .pattern (c .loop-p .p-index))) h s)
+    rw (p .1, p .2, n .0) (text-fails _ _ _ _ _ _ h s)
 
 pub loop-p-again : need.loop-p-again
 loop-p-again c =

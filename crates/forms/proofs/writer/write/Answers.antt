@@ -1,5 +1,5 @@
 use borrow.Author.Needs.{needs}
-use Rattle.forms.proofs.Once.{reads-back}
+use Rattle.forms.proofs.Readings.{reads-back}
 use Rattle.forms.proofs.writer.write.Needs as need
 
 pub returns-then-not-legal : need.returns-then-not-legal

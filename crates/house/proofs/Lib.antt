@@ -1,0 +1,4 @@
+pub mod LineEnds
+pub mod Opens
+pub mod Serves
+pub mod Prints
