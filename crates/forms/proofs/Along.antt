@@ -1,19 +1,18 @@
 -- How far a form has been written.
 use mathlib.Core.Path.{_≡_, refl, sym, ap, subst, _∙_}
-use mathlib.Core.Bool.{Bool, true, false, cond}
-use lib.Dec.{eqb}
-use mathlib.Core.List.{List, [], _∷_, _++_, append-assoc, append-nil, map}
-use Prim.Native.Nat.{ℕ, zero, suc, _+_, _-_, _*_, _^_, _<_, _≤_, zero-le}
+use mathlib.Core.Bool.{Bool, true, false}
+use mathlib.Core.List.{List, [], _∷_, _++_}
+use Prim.Native.Nat.{ℕ, suc, _+_, _*_, _<_, _≤_, zero-le}
 use native.Mathlib.Omega.{arith}
 use lib.IntN.{ℤ, pos, negsuc, natAbs}
-use lib.ListN.{length, set, take, drop, getD, length-append, length-drop, length-map}
+use lib.ListN.{length, set, take, drop, getD, length-append, length-drop}
 use lib.Seq.{drop-drop, take-add, take-at, drop-at, length-take-le}
-use Rattle.std.specs.Written.{decimal, signed}
+use Rattle.std.specs.Written.{signed}
 use Rattle.std.proofs.shelf.Decimals.{length-decimal-le}
-use Rattle.std.proofs.shelf.Lists.{drop-more, drop-all, drop-map}
+use Rattle.std.proofs.shelf.Lists.{drop-more}
 use Rattle.forms.specs.Patterns.{Piece, text, number, pieceOf, pieces, Suits, Fits, fill, largestAmount}
 use Rattle.forms.specs.Writing.{put}
-use Rattle.forms.proofs.Puts.{put-put, put-none, put-set, length-put}
+use Rattle.forms.proofs.Puts.{put-put, put-set, length-put}
 use Rattle.forms.proofs.Pieces.{piece-at, pieces-end, Small, small-piece}
 
 -- n bytes of the line are written, and the pieces `rest` with the values ws are left
@@ -21,9 +20,6 @@ pub record Along (line : List ℕ) (rest : List Piece) (ws : List ℤ) (n : ℕ)
   pub within : n ≤ length line
   pub left : drop n line ≡ fill rest ws
   pub fits : Fits rest ws
-
-pub begin : (ps : List Piece) (vs : List ℤ) → Fits ps vs → Along (fill ps vs) ps vs 0
-begin ps vs h = record { within = zero-le; left = refl; fits = h }
 
 -- one word more of the line
 module _ (line w u : List ℕ) (n : ℕ) (h : n ≤ length line) (e : drop n line ≡ w ++ u) where
@@ -89,7 +85,7 @@ pub record Here (line : List ℕ) (rest : List Piece) (vs : List ℤ) (j n : ℕ
   pub next : Along line rest (drop (j + 1) vs) (n + length (signed (getD vs j (pos 0))))
 
 pub here : (line pattern : List ℕ) (vs : List ℤ) (i j n limit : ℕ) (minus : Bool) → i < length pattern → (pieceOf (getD pattern i 0) ≡ number limit minus) → limit ≤ largestAmount
-  → Along line (drop i (pieces pattern)) (drop j vs) n → Here line (drop (i + 1) (pieces pattern)) vs j n
+    → Along line (drop i (pieces pattern)) (drop j vs) n → Here line (drop (i + 1) (pieces pattern)) vs j n
 here line pattern vs i j n limit minus l e k a =
     let b = at-piece line pattern i n (drop j vs) (number limit minus) l e a in
     let some : j < length vs = omega (arith, some-along line limit minus _ _ n b, length-drop j vs) in

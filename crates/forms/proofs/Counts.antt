@@ -10,7 +10,7 @@ use lib.ListN.{length, length-append}
 use borrow.Author.Tests.{lt-ltb, le-ltb, eqb-true, ne-eqb}
 use Rattle.std.specs.Written.{decimal, signed}
 use Rattle.std.proofs.shelf.Decimals.{decimal-by-steps, decimal-some}
-use Rattle.forms.specs.Patterns.{Piece, text, number, pieceOf, pieces, Suits, Fits, fill, largestCount, largestAmount}
+use Rattle.forms.specs.Patterns.{text, number, pieces, Suits, Fits, fill, largestCount, largestAmount}
 use Rattle.forms.specs.Words.{Span, parting, closed, spansFrom, spans}
 
 -- how many words end in the line, where t says whether one goes on at its start
@@ -33,7 +33,7 @@ spans-counted from at (b ∷ s) h =
     (spans-counted from (suc at) s (omega arith) ∙ ap (λ t. count t s) (lt-ltb from (suc at) (omega arith)))
   where
     go : (t : Bool) → length (spansFrom (suc at) (suc at) s) ≡ count false s → length (spansFrom from (suc at) s) ≡ count true s
-      → length (cond t (closed from at ++ spansFrom (suc at) (suc at) s) (spansFrom from (suc at) s)) ≡ cond t (cond (ltb from at) 1 0 + count false s) (count true s)
+        → length (cond t (closed from at ++ spansFrom (suc at) (suc at) s) (spansFrom from (suc at) s)) ≡ cond t (cond (ltb from at) 1 0 + count false s) (count true s)
     go true p q = length-append (closed from at) (spansFrom (suc at) (suc at) s) ∙ (λ i. length-closed from at i + p i)
     go false p q = q
 
@@ -69,7 +69,7 @@ abbrev Same : List ℕ → Type 0
 Same pattern = (vs : List ℤ) → Fits (pieces pattern) vs → (t : Bool) → count t (fill (pieces pattern) vs) ≡ count t pattern
 
 number-same : (limit : ℕ) (minus : Bool) (pattern : List ℕ) (vs : List ℤ) (t : Bool) → limit ≤ largestAmount → Same pattern → Fits (number limit minus ∷ pieces pattern) vs
-  → count t (fill (number limit minus ∷ pieces pattern) vs) ≡ count true pattern
+    → count t (fill (number limit minus ∷ pieces pattern) vs) ≡ count true pattern
 number-same limit minus pattern [] t l same f = absurd f
 number-same limit minus pattern (v ∷ vs) t l same f =
     let p = signed-plain limit minus v l (f .0) in
@@ -81,8 +81,9 @@ same-count (b ∷ pattern) vs f t = go (same-count pattern) (eqb b 35) (eqb b 37
   where
     within : (k : ℕ) → eqb b k ≡ true → parting k ≡ false → count true pattern ≡ count t (b ∷ pattern)
     within k e p = ap (λ q. cond q (cond t 1 0 + count false pattern) (count true pattern)) (sym (ap parting (eqb-true b k e) ∙ p))
+
     go : Same pattern → (s u : Bool) → eqb b 35 ≡ s → eqb b 37 ≡ u → Fits (cond s (number largestCount false) (cond u (number largestAmount true) (text b)) ∷ pieces pattern) vs
-      → count t (fill (cond s (number largestCount false) (cond u (number largestAmount true) (text b)) ∷ pieces pattern) vs) ≡ count t (b ∷ pattern)
+        → count t (fill (cond s (number largestCount false) (cond u (number largestAmount true) (text b)) ∷ pieces pattern) vs) ≡ count t (b ∷ pattern)
     go same true u p q f = number-same largestCount false pattern vs t (omega arith) same f ∙ within 35 p refl
     go same false true p q f = number-same largestAmount true pattern vs t (omega arith) same f ∙ within 37 q refl
     go same false false p q f = (λ i. cond (parting b) (cond t 1 0 + same vs f false i) (same vs f true i))

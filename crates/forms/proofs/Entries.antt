@@ -3,7 +3,7 @@ use mathlib.Core.Path.{_≡_, refl, sym, ap, subst, _∙_}
 use mathlib.Core.Bool.{Bool, true, false, cond}
 use mathlib.Core.List.{List, [], _∷_}
 use mathlib.Core.Logic.{_⊎_, inl, inr}
-use Prim.Native.Nat.{ℕ, zero, suc, _<_, _≤_}
+use Prim.Native.Nat.{ℕ, suc, _<_, _≤_}
 use native.Mathlib.Omega.{arith}
 use lib.Dec.{ltb, leb}
 use lib.IntN.{ℤ, pos, negsuc, natAbs}
@@ -19,7 +19,7 @@ use Rattle.forms.specs.declared.calls.Call.{Call}
 use Rattle.forms.specs.declared.calls.Call.the-variants as call
 use Rattle.forms.specs.declared.table.Form.{Form}
 use Rattle.forms.specs.declared.table.Form.the-variants as form
-use Rattle.forms.specs.Patterns.{Piece, text, number, pieces, Suits, Fits, fill, Breaks, Sound, fields, mostFields, longestPattern}
+use Rattle.forms.specs.Patterns.{Piece, text, number, pieces, Suits, Fits, fill, Breaks, Sound}
 use Rattle.forms.specs.Table.{patternOf, houseForm, formOf, valuesOf, houseOf, callOf}
 use Rattle.forms.specs.Words.{spans, mostWords}
 use Rattle.forms.proofs.Counts.{count, words-counted}
@@ -56,41 +56,29 @@ sound-from [] h = tt
 sound-from (text b ∷ ps) h = sound-from ps h
 sound-from (number limit minus ∷ ps) h = let p = both (breaksB ps) (soundB ps) h in (breaks-from ps (p .0), sound-from ps (p .1))
 
--- what is tested of a pattern, computed at each entry of the table
-abbrev tests : List ℕ → List Bool
-tests p = leb (length p) longestPattern ∷ leb (fields (pieces p)) mostFields ∷ leb (count false p) mostWords ∷ soundB (pieces p) ∷ []
+-- the test of a pattern, computed at each entry of the table: it has few words, and can be read
+abbrev fine : List ℕ → Bool
+fine p = cond (leb (count false p) mostWords) (soundB (pieces p)) false
 
-abbrev every : List Bool → Bool
-every [] = true
-every (b ∷ bs) = cond b (every bs) false
+all-fine : (f : Form) → fine (patternOf f) ≡ true
+all-fine form.HouseGramsFlat = refl
+all-fine form.HouseGramsChain = refl
+all-fine form.HouseTraysFlat = refl
+all-fine form.HouseTraysChain = refl
+all-fine form.LayGrams = refl
+all-fine form.LayTrays = refl
+all-fine form.Report = refl
 
-all-pass : (f : Form) → every (tests (patternOf f)) ≡ true
-all-pass form.HouseGramsFlat = refl
-all-pass form.HouseGramsChain = refl
-all-pass form.HouseTraysFlat = refl
-all-pass form.HouseTraysChain = refl
-all-pass form.LayGrams = refl
-all-pass form.LayTrays = refl
-all-pass form.Report = refl
-
-passed : (bs : List Bool) (k : ℕ) → every bs ≡ true → getD bs k true ≡ true
-passed [] k h = refl
-passed (b ∷ bs) zero h = both b (every bs) h .0
-passed (b ∷ bs) (suc k) h = passed bs k (both b (every bs) h .1)
-
-pub short : (f : Form) → length (patternOf f) ≤ longestPattern
-short f = leb-true (length (patternOf f)) longestPattern (passed (tests (patternOf f)) 0 (all-pass f))
-
-pub few : (f : Form) → fields (pieces (patternOf f)) ≤ mostFields
-few f = leb-true (fields (pieces (patternOf f))) mostFields (passed (tests (patternOf f)) 1 (all-pass f))
+passed : (f : Form) → (leb (count false (patternOf f)) mostWords ≡ true) × (soundB (pieces (patternOf f)) ≡ true)
+passed f = both (leb (count false (patternOf f)) mostWords) (soundB (pieces (patternOf f))) (all-fine f)
 
 pub few-words : (f : Form) (vs : List ℤ) → Fits (pieces (patternOf f)) vs → length (spans (fill (pieces (patternOf f)) vs)) ≤ mostWords
 few-words f vs h =
-    let n : count false (patternOf f) ≤ mostWords = leb-true (count false (patternOf f)) mostWords (passed (tests (patternOf f)) 2 (all-pass f)) in
+    let n : count false (patternOf f) ≤ mostWords = leb-true (count false (patternOf f)) mostWords (passed f .0) in
     omega (arith, words-counted (patternOf f) vs h)
 
 pub sound : (f : Form) → Sound (pieces (patternOf f))
-sound f = sound-from (pieces (patternOf f)) (passed (tests (patternOf f)) 3 (all-pass f))
+sound f = sound-from (pieces (patternOf f)) (passed f .1)
 
 -- the values from k on, as the pieces take them
 abbrev canon : List Piece → List ℤ → ℕ → List ℤ

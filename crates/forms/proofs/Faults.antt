@@ -1,35 +1,31 @@
 -- How a fault of what is left of a line is one of the line.
 use mathlib.Core.Path.{_≡_, refl, sym, ap, subst, _∙_}
-use mathlib.Core.Bool.{Bool, true, false}
-use mathlib.Core.List.{List, [], _∷_, _++_, append-assoc, append-nil}
-use mathlib.Core.Logic.{_⊎_, inl, inr, ⊎-elim}
-use Prim.Native.Nat.{ℕ, zero, suc, _+_, _-_, _*_, _/_, _%_, _^_, _<_, _≤_, zero-le}
+use mathlib.Core.List.{List, [], _∷_, _++_, append-assoc}
+use Prim.Native.Nat.{ℕ, zero, suc, _+_, _-_, _≤_, zero-le}
 use native.Mathlib.Omega.{arith}
 use native.Mathlib.Decide.{decLe}
 use native.Mathlib.Nat.{add-zero}
-use lib.IntN.{ℤ, pos, negsuc}
-use lib.ListN.{length, take, drop, getD, length-append}
-use lib.Seq.{take-append-add, take-append-seam}
-use Rattle.std.specs.Written.{decimal, signed}
-use Rattle.std.proofs.shelf.Decimals.{decimal-by-steps, decimal-digit, decimal-step, decimal-some, same-from-decimal}
-use Rattle.std.proofs.shelf.Lists.{same-from-push, length-push}
+use lib.ListN.{length, take, length-append}
+use lib.Seq.{take-append-add}
 use Rattle.forms.specs.Faults.{Begins, Fault}
-use Rattle.forms.specs.Patterns.{Piece, text, number, Suits, Fits, fill, Lines}
 use Rattle.forms.specs.Numbers.{first}
 
 -- w stands before both
 pub onward : (M L : List ℕ → Type 0) (w s : List ℕ) (up : (u : List ℕ) → L u → M (w ++ u)) (down : (u : List ℕ) → first u ≡ first s → M (w ++ u) → L u)
-  (n : ℕ) → Fault L s n → Fault M (w ++ s) (length w + n)
+    (n : ℕ) → Fault L s n → Fault M (w ++ s) (length w + n)
 onward M L w s up down n f = record {
   none = λ h. f .none (down s refl h);
   within = rw length-append (omega (arith, f .within));
   shared = (f .shared .0, subst M (sym (ap (λ x. x ++ f .shared .0) (take-append-add w s n) ∙ append-assoc w (take n s) (f .shared .0))) (up _ (f .shared .1)));
-  most = λ m h b. elim (decLe m (length w)) [ yes l ↦ omega arith | no l ↦
-      over s down (λ k. f .most k) m h b (m - suc (length w)) (omega arith) ];
+  most = λ m h b. elim (decLe m (length w)) [
+    | yes l ↦ omega arith
+    | no l ↦
+        over s down (λ k. f .most k) m h b (m - suc (length w)) (omega arith)
+  ];
 }
   where
     over : (s : List ℕ) (down : (u : List ℕ) → first u ≡ first s → M (w ++ u) → L u) → ((m : ℕ) → m ≤ length s → Begins L (take m s) → m ≤ n)
-      → (m : ℕ) → m ≤ length (w ++ s) → Begins M (take m (w ++ s)) → (k : ℕ) → m ≡ length w + suc k → m ≤ length w + n
+        → (m : ℕ) → m ≤ length (w ++ s) → Begins M (take m (w ++ s)) → (k : ℕ) → m ≡ length w + suc k → m ≤ length w + n
     over [] down most m h b k e = absurd (omega (arith, length-append w [], h, e))
     over (c ∷ s) down most m h b k e =
         let g = subst (λ (x : ℕ). Begins M (take x (w ++ (c ∷ s)))) e b in

@@ -1,12 +1,11 @@
 -- Whether the values fit the pieces, one after another.
-use mathlib.Core.Path.{_≡_, refl, sym, ap, subst, _∙_}
-use mathlib.Core.Bool.{Bool, true, false}
+use mathlib.Core.Path.{_≡_, sym, subst}
+use mathlib.Core.Bool.{Bool}
 use mathlib.Core.List.{List, [], _∷_}
 use Prim.Native.Nat.{ℕ, _+_, _<_, _≤_}
-use native.Mathlib.Omega.{arith}
-use lib.IntN.{ℤ, pos, negsuc}
+use lib.IntN.{ℤ, pos}
 use lib.ListN.{length, drop, getD}
-use Rattle.std.proofs.shelf.Lists.{drop-more, drop-all, drop-map}
+use Rattle.std.proofs.shelf.Lists.{drop-more, drop-all}
 use Rattle.forms.specs.Patterns.{Piece, text, number, pieceOf, pieces, Suits, Fits}
 use Rattle.forms.proofs.Pieces.{piece-at, pieces-end}
 

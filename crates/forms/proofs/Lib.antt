@@ -12,3 +12,5 @@ pub mod Tries
 pub mod Once
 pub mod Readings
 pub mod Splits
+pub mod Runs
+pub mod Examples

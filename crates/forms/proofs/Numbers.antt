@@ -1,15 +1,15 @@
 -- Where a written number ends.
 use mathlib.Core.Path.{_≡_, refl, sym, ap, subst, _∙_}
 use mathlib.Core.Bool.{Bool, true, false}
-use mathlib.Core.List.{List, [], _∷_, _++_, append-assoc, append-nil}
-use mathlib.Core.Logic.{_⊎_, inl, inr, ⊎-elim}
-use Prim.Native.Nat.{ℕ, zero, suc, _+_, _-_, _*_, _/_, _%_, _^_, _<_, _≤_, zero-le}
+use mathlib.Core.List.{List, [], _∷_, _++_, append-assoc}
+use mathlib.Core.Logic.{_⊎_, inr, ⊎-elim}
+use Prim.Native.Nat.{ℕ, suc, _+_, _-_, _*_, _/_, _%_, _^_, _<_, _≤_}
 use native.Mathlib.Omega.{arith}
 use lib.IntN.{ℤ, pos, negsuc}
-use lib.ListN.{length, take, drop, getD, length-append}
+use lib.ListN.{length, drop, getD, length-append}
 use Rattle.std.specs.Written.{decimal, signed}
 use Rattle.std.proofs.shelf.Decimals.{decimal-by-steps, decimal-digit, decimal-step, decimal-some, same-from-decimal}
-use Rattle.std.proofs.shelf.Lists.{same-from-push, length-push, drop-more, drop-all}
+use Rattle.std.proofs.shelf.Lists.{same-from-push, drop-more, drop-all}
 use Rattle.forms.specs.Patterns.{Suits}
 use Rattle.forms.specs.Numbers.{first, Goes, GoesOn, Took}
 
@@ -66,8 +66,8 @@ after-more n big ds h is a v e more small eq = go (last more) eq
 pub digits-after : (n : ℕ) → n < 2 ^ 64 → After n (decimal n)
 digits-after n h = decimal-by-steps (λ n ds. n < 2 ^ 64 → ds ≡ decimal n → After n ds) (λ n l big is. after-one n l)
     (λ n ds l ih big is.
-        let same-front : ds ≡ decimal (n / 10) = same-from-push ds (decimal (n / 10)) _ _ (is ∙ decimal-step n l big) .0 in
-        after-more n big ds l same-front (ih (omega arith) same-front))
+    let same-front : ds ≡ decimal (n / 10) = same-from-push ds (decimal (n / 10)) _ _ (is ∙ decimal-step n l big) .0 in
+    after-more n big ds l same-front (ih (omega arith) same-front))
     n h h refl
 
 -- a number begins with a digit, and a longer one not with 0
@@ -88,7 +88,7 @@ clash n u u′ h eq = go (decimal n) (first-digit n h) eq
 
 -- neither number goes on: they are the same
 pub munch : (limit v w : ℕ) (u u′ : List ℕ) → limit < 2 ^ 64 → v ≤ limit → w ≤ limit → (Goes limit v (first u) → ⊥) → (first u′ < 48) ⊎ (58 ≤ first u′)
-  → decimal v ++ u ≡ decimal w ++ u′ → (v ≡ w) × (u ≡ u′)
+    → decimal v ++ u ≡ decimal w ++ u′ → (v ≡ w) × (u ≡ u′)
 munch limit v w u u′ small hv hw stops breaks eq = go (cut (decimal v) u (decimal w) u′ eq)
   where
     go : Cut (decimal v) u (decimal w) u′ → (v ≡ w) × (u ≡ u′)
@@ -103,7 +103,7 @@ munch limit v w u u′ small hv hw stops breaks eq = go (cut (decimal v) u (deci
         absurd (⊎-elim (λ l. omega (arith, g .0)) (λ l. omega (arith, g .1)) breaks)
 
 pub munch-signed : (limit : ℕ) (minus : Bool) (z y : ℤ) (u u′ : List ℕ) → limit < 2 ^ 64 → Suits limit minus z → Suits limit minus y → (GoesOn limit z (first u) → ⊥) → (first u′ < 48) ⊎ (58 ≤ first u′)
-  → signed z ++ u ≡ signed y ++ u′ → (z ≡ y) × (u ≡ u′)
+    → signed z ++ u ≡ signed y ++ u′ → (z ≡ y) × (u ≡ u′)
 munch-signed limit minus (pos n) (pos m) u u′ small hz hy stops breaks eq =
     let p = munch limit n m u u′ small hz hy stops breaks eq in (ap pos (p .0), p .1)
 munch-signed limit minus (pos n) (negsuc m) u u′ small hz hy stops breaks eq = absurd (clash n _ _ (omega arith) eq)
@@ -123,7 +123,7 @@ decimal-push v d h k small =
 
 -- the same, where the digit stands at i
 pub digits-more : (s xs : List ℕ) (v i : ℕ) → 0 < v → i < length xs → 48 ≤ getD xs i 0 → getD xs i 0 < 58 → 10 * v + (getD xs i 0 - 48) < 2 ^ 64
-  → s ≡ decimal v ++ drop i xs → s ≡ decimal (10 * v + (getD xs i 0 - 48)) ++ drop (i + 1) xs
+    → s ≡ decimal v ++ drop i xs → s ≡ decimal (10 * v + (getD xs i 0 - 48)) ++ drop (i + 1) xs
 digits-more s xs v i pv l lo hi small h =
     let b : 48 + (getD xs i 0 - 48) ≡ getD xs i 0 = omega arith in
     let e = decimal-push v (getD xs i 0 - 48) pv (omega arith) small in

@@ -31,7 +31,7 @@ stops limit (pos n) e h g = ⊎-elim (λ l. omega (arith, g .0)) (λ l. omega (a
 stops limit (negsuc n) e h g = ⊎-elim (λ l. omega (arith, g .0)) (λ l. omega (arith, g .1)) h
 
 number-same : (limit : ℕ) (minus : Bool) (ps qs : List Piece) (z y : ℤ) (vs ws : List ℤ) → limit < 2 ^ 64 → Breaks ps → Breaks qs → Suits limit minus z → Suits limit minus y
-  → signed z ++ fill ps vs ≡ signed y ++ fill qs ws → (z ≡ y) × (fill ps vs ≡ fill qs ws)
+    → signed z ++ fill ps vs ≡ signed y ++ fill qs ws → (z ≡ y) × (fill ps vs ≡ fill qs ws)
 number-same limit minus ps qs z y vs ws small bp bq hz hy e = munch-signed limit minus z y (fill ps vs) (fill qs ws) small hz hy (stops limit z _ (breaks ps vs bp)) (breaks qs ws bq) e
 
 -- the values of a line
@@ -128,10 +128,12 @@ apart-places opened c d p q l e =
 
 pub once : (opened : Option Kind) (c d : Call) → Allowed opened c → Allowed opened d → written c ≡ written d → c ≡ d
 once opened c d p q e = elim (decLe (suc (p .legal .place)) (q .legal .place)) [
-    yes l ↦ absurd (apart-places opened c d p q l e)
+  | yes l ↦ absurd (apart-places opened c d p q l e)
   | no l ↦ elim (decLe (suc (q .legal .place)) (p .legal .place)) [
-      yes k ↦ absurd (apart-places opened d c q p k (sym e))
-    | no k ↦ same (omega arith) ] ]
+    | yes k ↦ absurd (apart-places opened d c q p k (sym e))
+    | no k ↦ same (omega arith)
+  ]
+]
   where
     same : p .legal .place ≡ q .legal .place → c ≡ d
     same w =

@@ -1,15 +1,15 @@
 -- What each piece of a pattern does to a fault.
 use mathlib.Core.Path.{_≡_, refl, sym, ap, subst, _∙_}
 use mathlib.Core.Bool.{Bool, true, false}
-use mathlib.Core.List.{List, [], _∷_, _++_, append-assoc, append-nil}
-use mathlib.Core.Logic.{_⊎_, inl, inr, ⊎-elim}
-use Prim.Native.Nat.{ℕ, zero, suc, _+_, _-_, _*_, _/_, _%_, _^_, _<_, _≤_, zero-le}
+use mathlib.Core.List.{List, [], _∷_, _++_}
+use mathlib.Core.Logic.{_⊎_, inr, ⊎-elim}
+use Prim.Native.Nat.{ℕ, suc, _+_, _^_, _<_, _≤_, zero-le}
 use native.Mathlib.Omega.{arith}
 use lib.IntN.{ℤ, pos, negsuc}
-use lib.ListN.{length, take, drop, getD, length-append}
+use lib.ListN.{length, getD}
 use Rattle.std.specs.Written.{decimal, signed}
 use Rattle.std.proofs.shelf.Decimals.{first-decimal}
-use Rattle.forms.specs.Faults.{Begins, Fault}
+use Rattle.forms.specs.Faults.{Fault}
 use Rattle.forms.specs.Patterns.{Piece, text, number, Suits, Fits, fill, Lines, Breaks}
 use Rattle.forms.proofs.Faults.{onward, stuck}
 use Rattle.forms.specs.Numbers.{first, GoesOn}
@@ -57,7 +57,7 @@ text-stops b ps s h = stuck (Lines (text b ∷ ps)) [] s (_, some-line (text b �
 
 module _ (limit : ℕ) (minus : Bool) (small : limit < 2 ^ 64) (ps : List Piece) where
   pub number-on : (z : ℤ) (s : List ℕ) (n : ℕ) → Breaks ps → Suits limit minus z → (GoesOn limit z (first s) → ⊥)
-    → Fault (Lines ps) s n → Fault (Lines (number limit minus ∷ ps)) (signed z ++ s) (length (signed z) + n)
+      → Fault (Lines ps) s n → Fault (Lines (number limit minus ∷ ps)) (signed z ++ s) (length (signed z) + n)
   number-on z s n br hz stops f = onward (Lines (number limit minus ∷ ps)) (Lines ps) (signed z) s
       (λ u h. (z ∷ h .0, (hz, h .1), ap (λ x. signed z ++ x) (h .2)))
       (λ u e h. down u e (h .0) (h .1) (h .2)) n f
@@ -87,6 +87,7 @@ module _ (limit : ℕ) (minus : Bool) (small : limit < 2 ^ 64) (ps : List Piece)
       suits : (minus : Bool) → minus ≡ true → Suits limit minus (negsuc 0)
       suits true e = one
       suits false e = absurd (let z : _≡_ {A = ℕ} 0 1 = cc in omega arith)
+
       no′ : (minus : Bool) → (vs : List ℤ) → Fits (number limit minus ∷ ps) vs → (u : List ℕ) → first u ≡ first s → 45 ∷ u ≡ fill (number limit minus ∷ ps) vs → ⊥
       no′ minus [] f u e eq = f
       no′ minus (pos n ∷ vs) f u e eq = clash n (fill ps vs) u (omega (arith, f .0)) (sym eq)

@@ -6,7 +6,6 @@ use Prim.Native.Nat.{ℕ, _+_, _<_, _≤_}
 use native.Mathlib.Omega.{arith}
 use lib.Dec.{eqb}
 use lib.ListN.{length, drop, getD}
-use borrow.Author.Tests.{ne-eqb}
 use Rattle.std.proofs.shelf.Lists.{drop-more, drop-all, drop-map}
 use Rattle.forms.specs.Numbers.{Limit}
 use Rattle.forms.specs.Patterns.{Piece, text, number, pieceOf, pieces, largestCount, largestAmount}
@@ -17,11 +16,6 @@ piece-at pattern i q l e =
 
 pub pieces-end : (pattern : List ℕ) (i : ℕ) → length pattern ≤ i → drop i (pieces pattern) ≡ []
 pieces-end pattern i l = drop-map pieceOf i pattern ∙ ap pieces (drop-all i pattern l)
-
-pub piece-text : (b : ℕ) → (b ≡ 35 → ⊥) → (b ≡ 37 → ⊥) → pieceOf b ≡ text b
-piece-text b p q =
-    ap (λ t. cond t (number largestCount false) (cond (eqb b 37) (number largestAmount true) (text b))) (ne-eqb b 35 p)
-    ∙ ap (λ t. cond t (number largestAmount true) (text b)) (ne-eqb b 37 q)
 
 -- a number takes every digit, and no more than 18 of them
 abbrev pub Small : Piece → Type 0

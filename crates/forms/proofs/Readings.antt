@@ -3,12 +3,11 @@ use mathlib.Core.Path.{_≡_, refl, sym, ap, subst, _∙_}
 use mathlib.Core.Bool.{Bool, true, false, cond}
 use mathlib.Core.List.{List, [], _∷_, _++_, append-assoc}
 use mathlib.Core.Logic.{_⊎_, inl, inr}
-use Prim.Native.Nat.{ℕ, zero, suc, max, _+_, _-_, _*_, _^_, _<_, _≤_, zero-le}
+use Prim.Native.Nat.{ℕ, zero, suc, max, _+_, _-_, _*_, _<_, _≤_, zero-le}
 use native.Mathlib.Omega.{arith}
-use native.Mathlib.Decide.{decLe}
 use lib.Dec.{eqb, ltb, leb}
 use lib.IntN.{ℤ, pos, negsuc}
-use lib.ListN.{length, take, drop, length-drop}
+use lib.ListN.{length, take, drop, length-append, length-drop}
 use borrow.Author.Tests.{ltb-true, ltb-false, leb-true, leb-false, lt-ltb, le-leb, eqb-true, eqb-false}
 use Rattle.std.specs.Written.{decimal, signed}
 use Rattle.std.specs.declared.option.Option.{Option}
@@ -20,19 +19,19 @@ use Rattle.forms.specs.declared.calls.Kind.{Kind}
 use Rattle.forms.specs.declared.calls.Call.{Call}
 use Rattle.forms.specs.declared.table.Form.{Form}
 use Rattle.forms.specs.declared.table.Form.the-variants as form
-use Rattle.forms.specs.Calls.{written, Allowed, Reads, Legal}
+use Rattle.forms.specs.Calls.{written, Reads, Legal}
 use Rattle.forms.specs.Faults.{Begins, Fault}
 use Rattle.forms.specs.Laws.{ReadsBack, OneLine, FaultPlace}
 use Rattle.forms.specs.Numbers.{Limit, first, Goes, Took, NoNumber}
 use Rattle.forms.specs.Patterns.{Piece, text, number, pieces, Fits, fill, Lines, Sound, largestAmount}
 use Rattle.forms.specs.Reading.{digit, goes, digitsOf, unsignedOf, negativeOf, numberOf, afterText, afterNumber, goOn, scanOf, tryOf, readFrom, readOf}
 use Rattle.forms.specs.Table.{patternOf, formsOf, formAt, callOf}
-use Rattle.forms.proofs.Entries.{never, both, sound}
+use Rattle.forms.proofs.Entries.{both, sound}
 use Rattle.forms.proofs.Numbers.{decimal-push, both-ways, took-minus}
 use Rattle.forms.proofs.Once.{once}
 use Rattle.forms.proofs.Patterns.{some-line, text-on, text-stops, number-on, number-stops, minus-stops}
 use Rattle.forms.proofs.Pieces.{AllSmall, all-small}
-use Rattle.forms.proofs.Tries.{Tried, untried, tried-less, tried-more, all-tried, reads}
+use Rattle.forms.proofs.Tries.{Tried, untried, tried-max, all-tried, reads}
 
 -- the tests of a digit
 digit-true : (least b : ℕ) → digit least b ≡ true → (least ≤ b) × (b < 58)
@@ -134,12 +133,15 @@ text-meets a ps s (Ok vs) m = (m .0, ap (λ x. a ∷ x) (m .1))
 text-meets a ps s (Err n) m = text-on a ps s n m
 
 after-meets : (limit : ℕ) (minus : Bool) (ps : List Piece) (s s′ : List ℕ) (z : ℤ) (r : Result (List ℤ) ℕ) → Limit limit → Sound (number limit minus ∷ ps) → Took limit minus s z s′ → ScanMeets ps s′ r
-  → ScanMeets (number limit minus ∷ ps) s (afterNumber z r)
+    → ScanMeets (number limit minus ∷ ps) s (afterNumber (length s - length s′) z r)
 after-meets limit minus ps s s′ z (Ok vs) l h t m = ((t .suits, m .0), t .front ∙ ap (λ x. signed z ++ x) (m .1))
-after-meets limit minus ps s s′ z (Err n) l h t m = subst (λ x. Fault (Lines (number limit minus ∷ ps)) x (length (signed z) + n)) (sym (t .front)) (number-on limit minus (omega (arith, l .1)) ps z s′ n (h .0) (t .suits) (t .stops) m)
+after-meets limit minus ps s s′ z (Err n) l h t m =
+    let k : length (signed z) ≡ length s - length s′ = omega (arith, ap length (t .front), length-append (signed z) s′) in
+    let f = number-on limit minus (omega (arith, l .1)) ps z s′ n (h .0) (t .suits) (t .stops) m in
+    subst (λ j. Fault (Lines (number limit minus ∷ ps)) s (j + n)) k (subst (λ x. Fault (Lines (number limit minus ∷ ps)) x (length (signed z) + n)) (sym (t .front)) f)
 
 on-meets : (limit : ℕ) (minus : Bool) (ps : List Piece) (s : List ℕ) (r : Result (ℤ × List ℕ) ℕ) → Limit limit → Sound (number limit minus ∷ ps) → NumberMeets limit minus s r → ((u : List ℕ) → ScanMeets ps u (scanOf ps u))
-  → ScanMeets (number limit minus ∷ ps) s (goOn r (scanOf ps))
+    → ScanMeets (number limit minus ∷ ps) s (goOn s r (scanOf ps))
 on-meets limit minus ps s (Ok p) l h m next = after-meets limit minus ps s (p .1) (p .0) (scanOf ps (p .1)) l h m (next (p .1))
 on-meets limit minus ps s (Err n) l h m next = m ps
 
@@ -159,13 +161,8 @@ ReadMeets opened line (Ok c) = Reads opened line c
 ReadMeets opened line (Err n) = Fault (Legal opened) line n
 
 module _ (opened : Option Kind) (line : List ℕ) where
-  tried-max : (i place n : ℕ) → Fault (Lines (pieces (patternOf (formAt (formsOf opened) i)))) line n → Tried (formsOf opened) line i place → Tried (formsOf opened) line (i + 1) (max place n)
-  tried-max i place n f t = elim (decLe place n) [
-      yes l ↦ subst (λ k. Tried (formsOf opened) line (i + 1) k) (omega arith) (tried-more (formsOf opened) line i place n f t l)
-    | no l ↦ subst (λ k. Tried (formsOf opened) line (i + 1) k) (omega arith) (tried-less (formsOf opened) line i place n f t (omega arith)) ]
-
   try-meets : (f : Form) (fs : List Form) (i place : ℕ) (r : Result (List ℤ) ℕ) → i < length (formsOf opened) → formAt (formsOf opened) i ≡ f → ScanMeets (pieces (patternOf f)) line r
-    → ((n : ℕ) → Fault (Lines (pieces (patternOf f))) line n → ReadMeets opened line (readFrom fs (max place n) line)) → ReadMeets opened line (tryOf f r (λ n. readFrom fs (max place n) line))
+      → ((n : ℕ) → Fault (Lines (pieces (patternOf f))) line n → ReadMeets opened line (readFrom fs (max place n) line)) → ReadMeets opened line (tryOf f r (λ n. readFrom fs (max place n) line))
   try-meets f fs i place (Ok vs) l e m next =
       let q = ap patternOf (sym e) in
       subst (λ g. Reads opened line (callOf g vs)) e (reads opened i vs line l (subst (λ x. Fits (pieces x) vs) q (m .0)) (m .1 ∙ ap (λ x. fill (pieces x) vs) q))
@@ -179,7 +176,7 @@ module _ (opened : Option Kind) (line : List ℕ) where
       let here : formAt (formsOf opened) i ≡ f = cc in
       let rest : drop (i + 1) (formsOf opened) ≡ fs = cc in
       try-meets f fs i place (scanOf (pieces (patternOf f)) line) k here (scan-meets (pieces (patternOf f)) (sound f) (all-small (patternOf f)) line)
-      (λ n h. from-meets fs (i + 1) (max place n) rest (omega arith) (tried-max i place n (subst (λ g. Fault (Lines (pieces (patternOf g))) line n) (sym here) h) t))
+      (λ n h. from-meets fs (i + 1) (max place n) rest (omega arith) (tried-max (formsOf opened) line i place n (subst (λ g. Fault (Lines (pieces (patternOf g))) line n) (sym here) h) t))
 
   read-meets : ReadMeets opened line (readOf opened line)
   read-meets = from-meets (formsOf opened) 0 0 refl zero-le (untried (formsOf opened) line)

@@ -1,8 +1,8 @@
 -- How far a line has been split into words.
-use mathlib.Core.Path.{_≡_, refl, sym, ap, _∙_}
+use mathlib.Core.Path.{_≡_, sym, ap, _∙_}
 use mathlib.Core.Bool.{true, false, cond}
 use mathlib.Core.List.{List, [], _∷_, _++_, append-assoc, append-nil, map, map-append}
-use Prim.Native.Nat.{ℕ, suc, min, _+_, _<_, _≤_, zero-le}
+use Prim.Native.Nat.{ℕ, suc, min, _+_, _<_, _≤_}
 use native.Mathlib.Omega.{arith}
 use lib.ListN.{length, take, drop, set, getD, length-append, length-map, length-take}
 use lib.Seq.{getD-take}
@@ -32,9 +32,6 @@ below f xs n from to e l h = omega (arith, held-length f xs n, ap length (closed
 pub record Split (line : List ℕ) (ts : List (List ℕ)) (from at : ℕ) : Type 0 where
   pub within : from ≤ at
   pub rest : ts ++ cuts line (spansFrom from at (drop at line)) ≡ cuts line (spans line)
-
-pub unsplit : (line : List ℕ) → Split line [] 0 0
-unsplit line = record { within = zero-le; rest = refl }
 
 module _ (line : List ℕ) (ts : List (List ℕ)) (from at : ℕ) (s : Split line ts from at) where
   -- the words go on with more

@@ -2,8 +2,9 @@
 use mathlib.Core.Path.{_≡_, refl, sym, ap, subst, _∙_}
 use mathlib.Core.List.{List}
 use mathlib.Core.Logic.{_⊎_, inl, inr, ⊎-elim}
-use Prim.Native.Nat.{ℕ, _+_, _<_, _≤_, zero-le}
+use Prim.Native.Nat.{ℕ, max, _+_, _<_, _≤_, zero-le}
 use native.Mathlib.Omega.{arith}
+use native.Mathlib.Decide.{decLe}
 use lib.IntN.{ℤ}
 use lib.ListN.{length, take}
 use borrow.Author.Count.{below-more}
@@ -13,10 +14,10 @@ use Rattle.forms.specs.declared.calls.Kind.{Kind}
 use Rattle.forms.specs.declared.calls.Kind.the-variants.{Grams, Trays}
 use Rattle.forms.specs.declared.calls.Call.{Call}
 use Rattle.forms.specs.declared.table.Form.{Form}
-use Rattle.forms.specs.Calls.{written, Reads, Legal}
+use Rattle.forms.specs.Calls.{Reads, Legal}
 use Rattle.forms.specs.Faults.{Begins, Fault}
 use Rattle.forms.specs.Patterns.{pieces, Fits, fill, Lines}
-use Rattle.forms.specs.Table.{patternOf, formsOf, formAt, formOf, valuesOf, callOf}
+use Rattle.forms.specs.Table.{patternOf, formsOf, formAt, valuesOf, callOf}
 use Rattle.forms.proofs.Entries.{call-form, call-values}
 use Rattle.forms.proofs.Patterns.{some-line}
 
@@ -35,7 +36,7 @@ untried fs line = record { none = λ k l h. omega arith; most = λ k l m h b. ab
 
 module _ (fs : List Form) (line : List ℕ) (i place n : ℕ) (f : Fault (At fs i) line n) (t : Tried fs line i place) where
   -- one more, which fails not so far
-  pub tried-less : n ≤ place → Tried fs line (i + 1) place
+  tried-less : n ≤ place → Tried fs line (i + 1) place
   tried-less l = record {
     none = below-more (λ k. At fs k line → ⊥) i (t .none) (f .none);
     most = below-more (λ k. (m : ℕ) → m ≤ length line → Begins (At fs k) (take m line) → m ≤ place) i (t .most) (λ m h b. omega (arith, f .most m h b));
@@ -44,7 +45,7 @@ module _ (fs : List Form) (line : List ℕ) (i place n : ℕ) (f : Fault (At fs 
   }
 
   -- one more, which fails further on
-  pub tried-more : place ≤ n → Tried fs line (i + 1) n
+  tried-more : place ≤ n → Tried fs line (i + 1) n
   tried-more l = record {
     none = below-more (λ k. At fs k line → ⊥) i (t .none) (f .none);
     most = below-more (λ k. (m : ℕ) → m ≤ length line → Begins (At fs k) (take m line) → m ≤ n) i (λ k h m u b. omega (arith, t .most k h m u b)) (f .most);
@@ -52,19 +53,27 @@ module _ (fs : List Form) (line : List ℕ) (i place n : ℕ) (f : Fault (At fs 
     shared = inr (i, omega arith, f .shared);
   }
 
+  -- one more
+  pub tried-max : Tried fs line (i + 1) (max place n)
+  tried-max = elim (decLe place n) [
+    | yes l ↦ subst (λ k. Tried fs line (i + 1) k) (omega arith) (tried-more l)
+    | no l ↦ subst (λ k. Tried fs line (i + 1) k) (omega arith) (tried-less (omega arith))
+  ]
+
 -- the line of a form's values is that of the call
 pub reads : (opened : Option Kind) (k : ℕ) (vs : List ℤ) (line : List ℕ) → k < length (formsOf opened)
-  → Fits (pieces (patternOf (formAt (formsOf opened) k))) vs → line ≡ fill (pieces (patternOf (formAt (formsOf opened) k))) vs → Reads opened line (callOf (formAt (formsOf opened) k) vs)
+    → Fits (pieces (patternOf (formAt (formsOf opened) k))) vs → line ≡ fill (pieces (patternOf (formAt (formsOf opened) k))) vs → Reads opened line (callOf (formAt (formsOf opened) k) vs)
 reads opened k vs line l h e =
     let f = formAt (formsOf opened) k in
     let p = sym (call-form f vs) in
-    let q = sym (call-values f vs h) in
-    (record { legal = record { place = k; within = l; here = p }; fits = subst (λ g. Fits (pieces (patternOf g)) (valuesOf (callOf f vs))) p (subst (Fits (pieces (patternOf f))) q h) },
-     e ∙ (λ i. fill (pieces (patternOf (p i))) (q i)))
+    let q = sym (call-values f vs h) in (
+      record { legal = record { place = k; within = l; here = p }; fits = subst (λ g. Fits (pieces (patternOf g)) (valuesOf (callOf f vs))) p (subst (Fits (pieces (patternOf f))) q h) },
+      e ∙ (λ i. fill (pieces (patternOf (p i))) (q i)),
+    )
 
 -- the same of what the reader has in hand
 pub reads-found : (opened : Option Kind) (i : ℕ) (c : Call) (pat : List ℕ) (vs : List ℤ) (fs : List Form) (line : List ℕ) → fs ≡ formsOf opened → i < length fs → c ≡ callOf (formAt fs i) vs
-  → pat ≡ patternOf (formAt fs i) → Fits (pieces pat) vs × (line ≡ fill (pieces pat) vs) → Reads opened line c
+    → pat ≡ patternOf (formAt fs i) → Fits (pieces pat) vs × (line ≡ fill (pieces pat) vs) → Reads opened line c
 reads-found opened i c pat vs fs line e l d p h =
     let g = ap (λ xs. formAt xs i) e in
     let q = p ∙ ap patternOf g in

@@ -9,7 +9,7 @@ use Rattle.std.specs.Written.{signed}
 use Rattle.forms.specs.Faults.{Fault}
 use Rattle.forms.specs.Patterns.{Piece, number, Suits, Lines, largestAmount}
 
--- every digit is within the limit, and it within 18 digits
+-- every digit is within the limit, and the limit is itself an amount
 abbrev pub Limit : ℕ → Type 0
 Limit limit = (9 ≤ limit) × (limit ≤ largestAmount)
 
@@ -17,10 +17,18 @@ Limit limit = (9 ≤ limit) × (limit ≤ largestAmount)
 abbrev pub first : List ℕ → ℕ
 first s = getD s 0 256
 
--- the byte b is a digit that may follow those of v, in a number up to the limit
+-- the byte b stands at a place, and it does not
+abbrev pub Stands : List ℕ → ℕ → ℕ → Type 0
+Stands line at b = (at < length line) × (getD line at 0 ≡ b)
+
+abbrev pub Differs : List ℕ → ℕ → ℕ → Type 0
+Differs line at b = first (drop at line) ≡ b → ⊥
+
+-- the byte b is a digit, from 48 to 57, that may follow those of v in a number up to the limit
 abbrev pub Goes : ℕ → ℕ → ℕ → Type 0
 Goes limit v b = (48 ≤ b) × (b < 58) × (0 < v) × (10 * v + (b - 48) ≤ limit)
 
+-- the same of a number with its sign
 abbrev pub GoesOn : ℕ → ℤ → ℕ → Type 0
 GoesOn limit (pos n) b = Goes limit n b
 GoesOn limit (negsuc n) b = Goes limit (suc n) b

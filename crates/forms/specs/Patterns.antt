@@ -12,7 +12,11 @@ use Rattle.std.specs.Written.{signed}
 abbrev pub largestCount : ℕ
 largestCount = 4294967295
 
--- the largest number of 18 digits
+-- an amount has at most so many digits
+abbrev pub mostDigits : ℕ
+mostDigits = 18
+
+-- the largest number of so many digits
 abbrev pub largestAmount : ℕ
 largestAmount = 999999999999999999
 
@@ -29,18 +33,19 @@ pub data Piece : Type 0 where
   text : ℕ → Piece
   number : ℕ → Bool → Piece
 
--- what a byte of a pattern stands for
+-- what a byte of a pattern stands for; `#` is 35 and `%` is 37
 abbrev pub pieceOf : ℕ → Piece
 pieceOf b = cond (eqb b 35) (number largestCount false) (cond (eqb b 37) (number largestAmount true) (text b))
 
+-- a pattern, byte by byte
 abbrev pub pieces : List ℕ → List Piece
 pieces pattern = map pieceOf pattern
 
 -- how many numbers the pieces have
-abbrev pub fields : List Piece → ℕ
-fields [] = 0
-fields (text b ∷ ps) = fields ps
-fields (number limit minus ∷ ps) = suc (fields ps)
+abbrev pub fieldCount : List Piece → ℕ
+fieldCount [] = 0
+fieldCount (text b ∷ ps) = fieldCount ps
+fieldCount (number limit minus ∷ ps) = suc (fieldCount ps)
 
 -- the value is one that a number up to the limit writes
 abbrev pub Suits : ℕ → Bool → ℤ → Type 0

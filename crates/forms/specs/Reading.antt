@@ -1,11 +1,10 @@
 -- What a line reads as, computed: the forms that are legal then are tried in turn, and a fault stands where the one that gets furthest fails.
-use mathlib.Core.Bool.{Bool, true, false, cond}
+use mathlib.Core.Bool.{Bool, false, cond}
 use mathlib.Core.List.{List, [], _∷_}
 use Prim.Native.Nat.{ℕ, max, _+_, _-_, _*_}
 use lib.Dec.{eqb, ltb, leb}
 use lib.IntN.{ℤ, pos, negsuc}
 use lib.ListN.{length}
-use Rattle.std.specs.Written.{signed}
 use Rattle.std.specs.declared.option.Option.{Option}
 use Rattle.std.specs.declared.result.Result.{Result}
 use Rattle.std.specs.declared.result.Result.the-variants.{Ok, Err}
@@ -37,22 +36,24 @@ abbrev pub negativeOf : ℕ → List ℕ → Result (ℤ × List ℕ) ℕ
 negativeOf limit [] = Err 1
 negativeOf limit (b ∷ s) = cond (digit 49 b) (Ok (negsuc (digitsOf limit (b - 48) s .0 - 1), digitsOf limit (b - 48) s .1)) (Err 1)
 
+-- the minus, 45, is read where the number may have one
 abbrev pub numberOf : ℕ → Bool → List ℕ → Result (ℤ × List ℕ) ℕ
 numberOf limit minus [] = Err 0
 numberOf limit minus (b ∷ s) = cond (cond minus (eqb b 45) false) (negativeOf limit s) (unsignedOf limit (b ∷ s))
 
--- what follows a byte of text, and what follows a number
+-- what follows a byte of text, and what follows a number z of k bytes
 abbrev pub afterText : Result (List ℤ) ℕ → Result (List ℤ) ℕ
 afterText (Ok vs) = Ok vs
 afterText (Err n) = Err (1 + n)
 
-abbrev pub afterNumber : ℤ → Result (List ℤ) ℕ → Result (List ℤ) ℕ
-afterNumber z (Ok vs) = Ok (z ∷ vs)
-afterNumber z (Err n) = Err (length (signed z) + n)
+abbrev pub afterNumber : ℕ → ℤ → Result (List ℤ) ℕ → Result (List ℤ) ℕ
+afterNumber k z (Ok vs) = Ok (z ∷ vs)
+afterNumber k z (Err n) = Err (k + n)
 
-abbrev pub goOn : Result (ℤ × List ℕ) ℕ → (List ℕ → Result (List ℤ) ℕ) → Result (List ℤ) ℕ
-goOn (Ok p) next = afterNumber (p .0) (next (p .1))
-goOn (Err n) next = Err n
+-- the rest of the line s after its first number
+abbrev pub goOn : List ℕ → Result (ℤ × List ℕ) ℕ → (List ℕ → Result (List ℤ) ℕ) → Result (List ℤ) ℕ
+goOn s (Ok p) next = afterNumber (length s - length (p .1)) (p .0) (next (p .1))
+goOn s (Err n) next = Err n
 
 -- the values of a line of the pieces, or where it fails
 abbrev pub scanOf : List Piece → List ℕ → Result (List ℤ) ℕ
@@ -60,13 +61,14 @@ scanOf [] [] = Ok []
 scanOf [] (b ∷ s) = Err 0
 scanOf (text a ∷ ps) [] = Err 0
 scanOf (text a ∷ ps) (b ∷ s) = cond (eqb b a) (afterText (scanOf ps s)) (Err 0)
-scanOf (number limit minus ∷ ps) s = goOn (numberOf limit minus s) (scanOf ps)
+scanOf (number limit minus ∷ ps) s = goOn s (numberOf limit minus s) (scanOf ps)
 
 -- the call that one form makes of the line, or else what comes of the others
 abbrev pub tryOf : Form → Result (List ℤ) ℕ → (ℕ → Result Call ℕ) → Result Call ℕ
 tryOf f (Ok vs) others = Ok (callOf f vs)
 tryOf f (Err n) others = others n
 
+-- the forms one after another, where those before failed at `place` at the furthest
 abbrev pub readFrom : List Form → ℕ → List ℕ → Result Call ℕ
 readFrom [] place line = Err place
 readFrom (f ∷ fs) place line = tryOf f (scanOf (pieces (patternOf f)) line) (λ n. readFrom fs (max place n) line)

@@ -1,10 +1,9 @@
 -- The forms: the pattern of each, when it is legal, and the call that it writes.
-use mathlib.Core.Path.{_≡_}
 use mathlib.Core.List.{List, [], _∷_, _++_}
-use Prim.Native.Nat.{ℕ, _<_}
+use Prim.Native.Nat.{ℕ}
 use lib.Chars.{codes}
 use lib.IntN.{ℤ, pos, natAbs}
-use lib.ListN.{length, getD}
+use lib.ListN.{getD}
 use Rattle.std.specs.declared.option.Option.{Option}
 use Rattle.std.specs.declared.option.Option.the-variants.{Some, None}
 use Rattle.forms.specs.declared.calls.Kind.{Kind}
@@ -13,12 +12,12 @@ use Rattle.forms.specs.declared.calls.Layout.{Layout}
 use Rattle.forms.specs.declared.calls.Layout.the-variants as layout
 use Rattle.forms.specs.declared.calls.Figures.{Figures}
 use Rattle.forms.specs.declared.calls.Figures.the-variants as figures
-use Rattle.forms.specs.declared.calls.HouseForm.{HouseForm}
 use Rattle.forms.specs.declared.calls.Call.{Call}
 use Rattle.forms.specs.declared.calls.Call.the-variants as call
 use Rattle.forms.specs.declared.table.Form.{Form}
 use Rattle.forms.specs.declared.table.Form.the-variants as form
 
+-- the text of each form
 abbrev pub patternOf : Form → List ℕ
 patternOf form.HouseGramsFlat = codes "(house # (kind g) (shelf flat # #))"
 patternOf form.HouseGramsChain = codes "(house # (kind g) (shelf chain # #))"
@@ -38,19 +37,24 @@ formsOf (Some kind.Trays) = form.LayTrays ∷ form.Report ∷ []
 abbrev pub formAt : List Form → ℕ → Form
 formAt fs k = getD fs k form.HouseGramsFlat
 
+-- the form of a house, and of a `lay` by its least amount
 abbrev pub houseForm : Kind → Layout → Form
 houseForm kind.Grams layout.Flat = form.HouseGramsFlat
 houseForm kind.Grams layout.Chain = form.HouseGramsChain
 houseForm kind.Trays layout.Flat = form.HouseTraysFlat
 houseForm kind.Trays layout.Chain = form.HouseTraysChain
 
--- the form in which a call is written; of a `lay`, that of its least amount
+abbrev pub layForm : Figures → Form
+layForm (figures.Grams a) = form.LayGrams
+layForm (figures.Trays a b) = form.LayTrays
+
+-- the form in which a call is written
 abbrev pub formOf : Call → Form
 formOf (call.House h) = houseForm (h .kind) (h .layout)
-formOf (call.Lay (figures.Grams a) max at) = form.LayGrams
-formOf (call.Lay (figures.Trays a b) max at) = form.LayTrays
+formOf (call.Lay min max at) = layForm min
 formOf (call.Report bin) = form.Report
 
+-- the numbers of an amount
 abbrev pub figuresOf : Figures → List ℤ
 figuresOf (figures.Grams a) = a ∷ []
 figuresOf (figures.Trays a b) = a ∷ pos b ∷ []
@@ -68,6 +72,7 @@ amountAt vs k = getD vs k (pos 0)
 abbrev pub countAt : List ℤ → ℕ → ℕ
 countAt vs k = natAbs (amountAt vs k)
 
+-- what the values from there on write
 abbrev pub houseOf : Kind → Layout → List ℤ → Call
 houseOf k l vs = call.House (record { house = countAt vs 0; kind = k; layout = l; bins = countAt vs 1; grants = countAt vs 2 })
 

@@ -31,9 +31,16 @@ pub struct HouseForm {
     pub grants: u32,
 }
 
+// What a line asks of the house.
 #[derive(Clone, Copy, Debug, PartialEq)]
 pub enum Call {
     House(HouseForm),
-    Lay { min: Figures, max: Figures, now: Figures },
-    Report { bin: u32 },
+    Lay {
+        min: Figures,
+        max: Figures,
+        now: Figures,
+    },
+    Report {
+        bin: u32,
+    },
 }

@@ -1,24 +1,24 @@
 // A line, and how far it has been read.
 ghost use mathlib.Core.Path.{_≡_};
 ghost use mathlib.Core.Bool.{true, false};
-ghost use Prim.Native.Nat.{ℕ, _+_, _<_, _≤_};
-ghost use lib.ListN.{length, getD, drop};
+ghost use Prim.Native.Nat.{_+_, _<_, _≤_};
+ghost use lib.ListN.{length};
 ghost use Rattle.std.specs.Results.{Cases};
-ghost use Rattle.forms.specs.Numbers.{Limit, first, Found, Missing};
+ghost use Rattle.forms.specs.Numbers.{Limit, Stands, Differs, Found, Missing};
 use super::Unreadable;
 use super::number::number_at;
 
 #[derive(Drop)]
 pub struct Cursor<'a> {
-    pub line: &'a [u8],
-    pub at: usize,
+    line: &'a [u8],
+    at: usize,
     ghost within: { at ≤ length (line .now) },
 }
 
 // Whether `b` stands at `at`.
 fn stands_at(line: &[u8], at: usize, b: u8) -> bool
-    ensures stands { λ r. ⌜ (r ≡ true → (at < length (now (line .entry))) × (getD (now (line .entry)) at 0 ≡ b)) ⌝ }
-    ensures differs { λ r. ⌜ (r ≡ false → first (drop at (now (line .entry))) ≡ b → ⊥) ⌝ }
+    ensures stands { λ r. ⌜ (r ≡ true → Stands (now (line .entry)) at b) ⌝ }
+    ensures differs { λ r. ⌜ (r ≡ false → Differs (now (line .entry)) at b) ⌝ }
 {
     at < line.len() && line[at] == b
 }
@@ -34,8 +34,8 @@ impl<'a> Cursor<'a> {
     pub fn text(&mut self, b: u8) -> Result<(), Unreadable>
         ensures line { λ _. ⌜ now (self .exit) .line .now ≡ now (self .entry) .line .now ⌝ }
         ensures next { λ r. ⌜ Cases r
-            (λ _. (now (self .entry) .at < length (now (self .entry) .line .now)) × (getD (now (self .entry) .line .now) (now (self .entry) .at) 0 ≡ b) × (now (self .exit) .at ≡ now (self .entry) .at + 1))
-            (λ e. (e .place ≡ now (self .entry) .at) × (first (drop (now (self .entry) .at) (now (self .entry) .line .now)) ≡ b → ⊥)) ⌝ }
+            (λ _. Stands (now (self .entry) .line .now) (now (self .entry) .at) b × (now (self .exit) .at ≡ now (self .entry) .at + 1))
+            (λ e. (e .place ≡ now (self .entry) .at) × Differs (now (self .entry) .line .now) (now (self .entry) .at) b) ⌝ }
     {
         if !stands_at(self.line, self.at, b) {
             return Err(Unreadable { place: self.at });
@@ -63,6 +63,10 @@ impl<'a> Cursor<'a> {
             (λ _. length (now (self .entry) .line .now) ≤ now (self .entry) .at)
             (λ e. (e .place ≡ now (self .entry) .at) × (now (self .entry) .at < length (now (self .entry) .line .now))) ⌝ }
     {
-        if self.at < self.line.len() { Err(Unreadable { place: self.at }) } else { Ok(()) }
+        if self.at < self.line.len() {
+            Err(Unreadable { place: self.at })
+        } else {
+            Ok(())
+        }
     }
 }

@@ -1,18 +1,19 @@
-// The numbers of a line.
+// What a line has in place of the numbers of its pattern.
 ghost use mathlib.Core.Path.{_≡_};
 ghost use mathlib.Core.Bool.{false};
 ghost use mathlib.Core.List.{_++_, _∷_, []};
-ghost use Prim.Native.Nat.{ℕ, _+_, _<_, _≤_};
+ghost use Prim.Native.Nat.{_+_, _<_, _≤_};
 ghost use lib.IntN.{pos};
 ghost use lib.ListN.{length, getD, take};
 ghost use Rattle.forms.specs.Patterns.{Suits, largestCount, mostFields};
 
-const MOST: usize = 6;
+// No form has more numbers.
+const MOST_FIELDS: usize = 6;
 
-// In written order.
+// The numbers, in written order.
 #[derive(Clone, Copy)]
 pub struct Fields {
-    pub values: [i64; MOST],
+    values: [i64; MOST_FIELDS],
     pub len: usize,
     ghost within: { len ≤ mostFields },
 }
@@ -21,9 +22,13 @@ impl Fields {
     pub fn new() -> Fields
         ensures { λ r. ⌜ take (r .len) (r .values) ≡ [] ⌝ ∗ ⌜ r .len ≡ 0 ⌝ }
     {
-        Fields { values: [0; MOST], len: 0 }
+        Fields {
+            values: [0; MOST_FIELDS],
+            len: 0,
+        }
     }
 
+    // The number at `i`.
     pub fn amount(&self, i: usize) -> i64
         requires { ⌜ i < length (take (now self .len) (now self .values)) ⌝ }
         ensures { λ r. ⌜ r ≡ getD (take (now (self .entry) .len) (now (self .entry) .values)) i (pos 0) ⌝ }

@@ -1,4 +1,6 @@
 // The lines that a house takes: which calls they write, where an unreadable one fails, and how a call is written.
+ghost use mathlib.Core.Path.{_≡_};
+ghost use Prim.Native.Nat.{max};
 
 pub mod calls;
 mod cursor;
@@ -24,4 +26,17 @@ pub use writer::write;
 #[derive(Clone, Copy, Debug, PartialEq)]
 pub struct Unreadable {
     pub place: usize,
+}
+
+impl Unreadable {
+    // The one that is further on.
+    fn further(self, other: Unreadable) -> Unreadable
+        ensures { λ r. ⌜ r .place ≡ max (self .place) (other .place) ⌝ }
+    {
+        if self.place < other.place {
+            other
+        } else {
+            self
+        }
+    }
 }

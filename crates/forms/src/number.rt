@@ -1,9 +1,9 @@
 // Numbers read from a line: decimal, with no leading zero and no minus before 0.
 ghost use mathlib.Core.Path.{_≡_};
-ghost use mathlib.Core.List.{List, _++_};
+ghost use mathlib.Core.List.{_++_};
 ghost use mathlib.Core.Bool.{true, false};
 ghost use mathlib.Core.Logic.{_⊎_};
-ghost use Prim.Native.Nat.{ℕ, _+_, _-_, _*_, _<_, _≤_};
+ghost use Prim.Native.Nat.{_+_, _-_, _*_, _<_, _≤_};
 ghost use lib.ListN.{length, getD, drop};
 ghost use Rattle.std.specs.Options.{Cases as BySome};
 ghost use Rattle.std.specs.Results.{Cases};
@@ -87,7 +87,12 @@ fn negative_at(line: &[u8], at: usize, limit: u64) -> Result<(usize, i64), Unrea
 }
 
 // The end and the value of the number at `at`.
-pub fn number_at(line: &[u8], at: usize, limit: u64, minus: bool) -> Result<(usize, i64), Unreadable>
+pub fn number_at(
+    line: &[u8],
+    at: usize,
+    limit: u64,
+    minus: bool,
+) -> Result<(usize, i64), Unreadable>
     requires within { ⌜ at ≤ length (now line) ⌝ }
     requires limited { ⌜ Limit limit ⌝ }
     ensures { λ r. ⌜ Cases r (λ p. Found limit minus (now (line .entry)) at (p .0) (p .1)) (λ e. Missing limit minus (now (line .entry)) at (e .place)) ⌝ }

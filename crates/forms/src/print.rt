@@ -1,12 +1,12 @@
 // A line written by a pattern.
 ghost use mathlib.Core.Path.{_≡_};
-ghost use Prim.Native.Nat.{ℕ, _+_, _≤_};
+ghost use Prim.Native.Nat.{_+_, _≤_};
 ghost use lib.IntN.{natAbs};
 ghost use lib.ListN.{length};
 ghost use Rattle.std.specs.Results.{Cases};
 ghost use Rattle.std.specs.Written.{decimal, signed};
 ghost use Rattle.forms.specs.Fields.{valuesIn};
-ghost use Rattle.forms.specs.Patterns.{pieces, Fits, fill, largestAmount, longestPattern};
+ghost use Rattle.forms.specs.Patterns.{pieces, Fits, fill, largestAmount, mostDigits, longestPattern};
 ghost use Rattle.forms.specs.Writing.{put, Wrote, NoRoom};
 use super::Unreadable;
 use super::fields::Fields;
@@ -15,7 +15,7 @@ use super::scan::field;
 // How many digits `n` has.
 fn width(n: u64) -> usize
     requires { ⌜ n ≤ largestAmount ⌝ }
-    ensures { λ r. ⌜ r ≡ length (decimal n) ⌝ ∗ ⌜ r ≤ 18 ⌝ }
+    ensures { λ r. ⌜ r ≡ length (decimal n) ⌝ ∗ ⌜ r ≤ mostDigits ⌝ }
 {
     if n < 10 { 1 } else { width(n / 10) + 1 }
 }
@@ -39,7 +39,7 @@ fn put_digits(out: &mut [u8], at: usize, n: u64) -> usize
 // How many bytes `z` takes.
 fn width_of(z: i64) -> usize
     requires { ⌜ natAbs z ≤ largestAmount ⌝ }
-    ensures { λ r. ⌜ r ≡ length (signed z) ⌝ ∗ ⌜ r ≤ 19 ⌝ }
+    ensures { λ r. ⌜ r ≡ length (signed z) ⌝ ∗ ⌜ r ≤ mostDigits + 1 ⌝ }
 {
     let digits = width(z.unsigned_abs());
     if z < 0 { digits + 1 } else { digits }
@@ -69,7 +69,7 @@ fn length_of(pattern: &[u8], fields: &Fields) -> usize
     let mut next = 0;
     for p in pattern {
         match field(*p) {
-            Some((_limit, _minus)) => {
+            Some(_) => {
                 n += width_of(fields.amount(next));
                 next += 1;
             }
@@ -94,7 +94,7 @@ pub fn print(pattern: &[u8], fields: &Fields, out: &mut [u8]) -> Result<usize, U
     let mut next = 0;
     for p in pattern {
         match field(*p) {
-            Some((_limit, _minus)) => {
+            Some(_) => {
                 at = put_number(out, at, fields.amount(next));
                 next += 1;
             }

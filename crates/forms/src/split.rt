@@ -1,10 +1,10 @@
 // A line split into its words.
 ghost use mathlib.Core.Path.{_≡_};
 ghost use mathlib.Core.List.{[], _++_};
-ghost use Prim.Native.Nat.{ℕ, _+_, _<_, _≤_};
+ghost use Prim.Native.Nat.{_+_, _<_, _≤_};
 ghost use lib.ListN.{length, getD};
 ghost use Rattle.std.specs.Options.{Cases as BySome};
-ghost use Rattle.forms.specs.Words.{mostWords, parting, closed, cuts, spans, texts};
+ghost use Rattle.forms.specs.Words.{mostWords, parting, closed, cuts, spans, held, texts, Holds};
 
 // No form has more words.
 const MOST_WORDS: usize = 13;
@@ -25,30 +25,49 @@ fn is_parting(b: u8) -> bool
 
 impl<'a> Words<'a> {
     fn new() -> Words<'a>
-        ensures { λ r. ⌜ texts r ≡ [] ⌝ ∗ ⌜ r .len ≡ 0 ⌝ }
+        ensures { λ r. ⌜ texts r ≡ [] ⌝ }
     {
-        Words { parts: [b""; MOST_WORDS], len: 0 }
+        Words {
+            parts: [b""; MOST_WORDS],
+            len: 0,
+        }
     }
 
     // How many words there are.
     pub fn len(&self) -> usize
-        ensures { λ r. ⌜ r ≡ length (texts (now (self .entry))) ⌝ }
+        ensures { λ r. ⌜ r ≡ held (now (self .entry)) ⌝ }
     {
-        if self.len < MOST_WORDS { self.len } else { MOST_WORDS }
+        if self.len < MOST_WORDS {
+            self.len
+        } else {
+            MOST_WORDS
+        }
+    }
+
+    fn part(&self, i: usize) -> &'a [u8]
+        requires { ⌜ i < held (now self) ⌝ }
+        ensures { λ r. ⌜ now r ≡ getD (texts (now (self .entry))) i [] ⌝ }
+    {
+        self.parts[i]
     }
 
     // The word at `i`, from 0.
     pub fn get(&self, i: usize) -> Option<&'a [u8]>
-        ensures { λ r. ⌜ BySome r (length (texts (now (self .entry))) ≤ i) (λ w. (i < length (texts (now (self .entry)))) × (now w ≡ getD (texts (now (self .entry))) i [])) ⌝ }
+        ensures { λ r. ⌜ BySome r (held (now (self .entry)) ≤ i) (λ w. (i < held (now (self .entry))) × (now w ≡ getD (texts (now (self .entry))) i [])) ⌝ }
     {
-        if i < self.len && i < MOST_WORDS { Some(self.parts[i]) } else { None }
+        if i < self.len() {
+            Some(self.part(i))
+        } else {
+            None
+        }
     }
 
     // Adds the word between two places, unless it is empty.
     fn close(&mut self, line: &'a [u8], from: usize, to: usize)
         requires within { ⌜ from ≤ to ⌝ ∗ ⌜ to ≤ length (now line) ⌝ }
         requires room { ⌜ length (texts (now self)) + length (closed from to) ≤ mostWords ⌝ }
-        ensures { λ _. ⌜ texts (now (self .exit)) ≡ texts (now (self .entry)) ++ cuts (now (line .entry)) (closed from to) ⌝ }
+        ensures many { λ _. ⌜ held (now (self .exit)) ≡ length (texts (now (self .exit))) ⌝ }
+        ensures each { λ _. ⌜ texts (now (self .exit)) ≡ texts (now (self .entry)) ++ cuts (now (line .entry)) (closed from to) ⌝ }
     {
         if from < to {
             let at = self.len;
@@ -61,7 +80,7 @@ impl<'a> Words<'a> {
 // The words of the line.
 pub fn split<'a>(line: &'a [u8]) -> Words<'a>
     requires { ⌜ length (spans (now line)) ≤ mostWords ⌝ }
-    ensures { λ r. ⌜ texts r ≡ cuts (now (line .entry)) (spans (now (line .entry))) ⌝ }
+    ensures { λ r. ⌜ Holds r (now (line .entry)) ⌝ }
 {
     let mut words = Words::new();
     let mut from = 0;

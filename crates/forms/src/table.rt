@@ -1,10 +1,10 @@
-// The forms: the pattern of each, when it is legal, and the call that it writes.
+// The forms: the pattern of each, when it is legal, and the call that it writes. Each table here has its like in specs/Table.antt.
 ghost use mathlib.Core.Path.{_≡_};
 ghost use mathlib.Core.List.{_++_};
 ghost use Prim.Native.Nat.{_+_, _≤_};
 ghost use Rattle.forms.specs.Fields.{valuesIn};
 ghost use Rattle.forms.specs.Patterns.{pieces, Fits, mostFields};
-ghost use Rattle.forms.specs.Table.{patternOf, formsOf, formOf, figuresOf, valuesOf, callOf, houseForm, houseOf, gramsAt, traysAt};
+ghost use Rattle.forms.specs.Table.{patternOf, formsOf, formOf, figuresOf, valuesOf, callOf, houseForm, layForm, houseOf};
 use super::calls::Call;
 use super::calls::Figures;
 use super::calls::HouseForm;
@@ -42,23 +42,44 @@ pub fn forms(opened: Option<Kind>) -> &'static [Form]
     ensures { λ r. ⌜ now r ≡ formsOf opened ⌝ }
 {
     match opened {
-        None => &[Form::HouseGramsFlat, Form::HouseGramsChain, Form::HouseTraysFlat, Form::HouseTraysChain],
+        None => &[
+            Form::HouseGramsFlat,
+            Form::HouseGramsChain,
+            Form::HouseTraysFlat,
+            Form::HouseTraysChain,
+        ],
         Some(Kind::Grams) => &[Form::LayGrams, Form::Report],
         Some(Kind::Trays) => &[Form::LayTrays, Form::Report],
     }
 }
 
-// The form in which a call is written; of a `lay`, that of its least amount.
+fn house_form(kind: Kind, layout: Layout) -> Form
+    ensures { λ r. ⌜ r ≡ houseForm kind layout ⌝ }
+{
+    match (kind, layout) {
+        (Kind::Grams, Layout::Flat) => Form::HouseGramsFlat,
+        (Kind::Grams, Layout::Chain) => Form::HouseGramsChain,
+        (Kind::Trays, Layout::Flat) => Form::HouseTraysFlat,
+        (Kind::Trays, Layout::Chain) => Form::HouseTraysChain,
+    }
+}
+
+fn lay_form(min: Figures) -> Form
+    ensures { λ r. ⌜ r ≡ layForm min ⌝ }
+{
+    match min {
+        Figures::Grams(_) => Form::LayGrams,
+        Figures::Trays { .. } => Form::LayTrays,
+    }
+}
+
+// The form in which a call is written. That of a `lay` goes by its least amount.
 pub fn form_of(call: &Call) -> Form
     ensures { λ r. ⌜ r ≡ formOf (now (call .entry)) ⌝ }
 {
     match call {
-        Call::House(HouseForm { kind: Kind::Grams, layout: Layout::Flat, .. }) => Form::HouseGramsFlat,
-        Call::House(HouseForm { kind: Kind::Grams, layout: Layout::Chain, .. }) => Form::HouseGramsChain,
-        Call::House(HouseForm { kind: Kind::Trays, layout: Layout::Flat, .. }) => Form::HouseTraysFlat,
-        Call::House(HouseForm { kind: Kind::Trays, layout: Layout::Chain, .. }) => Form::HouseTraysChain,
-        Call::Lay { min: Figures::Grams(_), .. } => Form::LayGrams,
-        Call::Lay { min: Figures::Trays { .. }, .. } => Form::LayTrays,
+        Call::House(house) => house_form(house.kind, house.layout),
+        Call::Lay { min, .. } => lay_form(*min),
         Call::Report { .. } => Form::Report,
     }
 }
@@ -83,12 +104,16 @@ pub fn fields_of(call: &Call) -> Fields
 {
     let mut fields = Fields::new();
     match call {
-        Call::House(HouseForm { house, bins, grants, .. }) => {
-            fields.push(i64::from(*house));
-            fields.push(i64::from(*bins));
-            fields.push(i64::from(*grants));
+        Call::House(house) => {
+            fields.push(i64::from(house.house));
+            fields.push(i64::from(house.bins));
+            fields.push(i64::from(house.grants));
         }
-        Call::Lay { min, max, now: level } => {
+        Call::Lay {
+            min,
+            max,
+            now: level,
+        } => {
             push_figures(&mut fields, *min);
             push_figures(&mut fields, *max);
             push_figures(&mut fields, *level);
@@ -102,7 +127,13 @@ fn house(kind: Kind, layout: Layout, fields: &Fields) -> Call
     requires { ⌜ Fits (pieces (patternOf (houseForm kind layout))) (valuesIn (now fields)) ⌝ }
     ensures { λ r. ⌜ r ≡ houseOf kind layout (valuesIn (now (fields .entry))) ⌝ }
 {
-    Call::House(HouseForm { house: fields.count(0), kind, layout, bins: fields.count(1), grants: fields.count(2) })
+    Call::House(HouseForm {
+        house: fields.count(0),
+        kind,
+        layout,
+        bins: fields.count(1),
+        grants: fields.count(2),
+    })
 }
 
 // The call that a form writes with these numbers.
@@ -121,10 +152,21 @@ pub fn call_of(form: Form, fields: &Fields) -> Call
             now: Figures::Grams(fields.amount(2)),
         },
         Form::LayTrays => Call::Lay {
-            min: Figures::Trays { trays: fields.amount(0), loose: fields.count(1) },
-            max: Figures::Trays { trays: fields.amount(2), loose: fields.count(3) },
-            now: Figures::Trays { trays: fields.amount(4), loose: fields.count(5) },
+            min: Figures::Trays {
+                trays: fields.amount(0),
+                loose: fields.count(1),
+            },
+            max: Figures::Trays {
+                trays: fields.amount(2),
+                loose: fields.count(3),
+            },
+            now: Figures::Trays {
+                trays: fields.amount(4),
+                loose: fields.count(5),
+            },
         },
-        Form::Report => Call::Report { bin: fields.count(0) },
+        Form::Report => Call::Report {
+            bin: fields.count(0),
+        },
     }
 }

@@ -1,7 +1,7 @@
 // Calls written to a buffer.
 ghost use mathlib.Core.Path.{_≡_};
 ghost use mathlib.Core.Bool.{true, false};
-ghost use Prim.Native.Nat.{ℕ, _<_};
+ghost use Prim.Native.Nat.{_<_};
 ghost use lib.ListN.{length};
 ghost use Rattle.std.specs.Results.{Cases};
 ghost use Rattle.forms.specs.Calls.{written, Allowed, LegalForm};
@@ -66,13 +66,13 @@ fn legal(opened: Option<Kind>, form: Form) -> bool
     false
 }
 
-// Writes the call to the front of `out`, and answers the length. A call that has no form then, and one for which
-// `out` is too short, is refused at place 0, and `out` stays as it was.
+// Writes the call to the front of `out` and answers its length, or refuses it at place 0 and leaves `out` as it was.
 pub fn write(opened: Option<Kind>, call: &Call, out: &mut [u8]) -> Result<usize, Unreadable>
     ensures cases { λ r. ⌜ Cases r
         (λ n. Allowed opened (now (call .entry)) × Wrote (now (out .entry)) (written (now (call .entry))) n (now (out .exit)))
-        (λ e. (e .place ≡ 0) × (now (out .exit) ≡ now (out .entry)) × (Allowed opened (now (call .entry)) → length (now (out .entry)) < length (written (now (call .entry))))) ⌝ }
-    ensures law { λ _. ⌜ ReadsBack opened ⌝ }
+        (λ e. (e .place ≡ 0) × (now (out .exit) ≡ now (out .entry))
+        × (Allowed opened (now (call .entry)) → length (now (out .entry)) < length (written (now (call .entry))))) ⌝ }
+    ensures back { λ _. ⌜ ReadsBack opened ⌝ }
 {
     let form = form_of(call);
     let fields = fields_of(call);

@@ -268,9 +268,13 @@ touch f z b d xs = set xs b (f (getD xs b z) d)
 -- batch n is granted d in bin b
 abbrev pub grantIn : Contents → ℕ → ℕ → ℤ → Contents
 grantIn s n b d =
-    record
-      { bins = touch withGrant noBin b d (s .bins); grants = regrant (s .grants) b n (Some d); held = suc (s .held)
-      ; binCapacity = s .binCapacity; grantCapacity = s .grantCapacity }
+    record {
+      bins = touch withGrant noBin b d (s .bins);
+      grants = regrant (s .grants) b n (Some d);
+      held = suc (s .held);
+      binCapacity = s .binCapacity;
+      grantCapacity = s .grantCapacity;
+    }
 
 abbrev pub decide : State → ℕ → ℕ → ℤ → Verdict → Answer × State
 decide s n b d grant = (granted, withActive (withShelf s (grantIn (s .shelf) n b d)) (working n))
@@ -309,9 +313,13 @@ takeAll g n j k = cond (eqb k n) None (g j k)
 -- each bin in which batch n holds a grant is changed by f, and its grants are taken
 abbrev pub settleIn : (Figures → ℤ → Figures) → Contents → ℕ → Contents
 settleIn f s n =
-    record
-      { bins = mapFrom 0 (λ b x. onSome f x (s .grants b n)) (s .bins); grants = takeAll (s .grants) n; held = s .held - grantsOf s n
-      ; binCapacity = s .binCapacity; grantCapacity = s .grantCapacity }
+    record {
+      bins = mapFrom 0 (λ b x. onSome f x (s .grants b n)) (s .bins);
+      grants = takeAll (s .grants) n;
+      held = s .held - grantsOf s n;
+      binCapacity = s .binCapacity;
+      grantCapacity = s .grantCapacity;
+    }
 
 abbrev pub tail : List ℕ → List ℕ
 tail [] = []

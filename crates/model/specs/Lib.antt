@@ -1,2 +1,7 @@
 pub mod Ledger
-pub mod Run
+pub mod Journal
+pub mod Runs
+pub mod Script
+pub mod Sums
+pub mod Promises
+pub mod Examples

@@ -1,10 +1,10 @@
-use mathlib.Core.Path.{_≡_, sym, subst, ap, _∙_}
+use mathlib.Core.Path.{_≡_, sym, subst}
 use mathlib.Core.List.{_++_}
 use native.Mathlib.Omega.{arith}
-use Prim.Native.Nat.{ℕ, _-_, _+_, _*_, _<_, _≤_}
-use lib.ListN.{length, drop, getD}
+use Prim.Native.Nat.{_-_, _+_, _*_}
+use lib.ListN.{drop, getD}
 use Rattle.std.specs.Written.{decimal}
-use Rattle.forms.specs.Numbers.{first, Goes}
+use Rattle.forms.specs.Numbers.{Goes}
 use Rattle.forms.proofs.Numbers.{digits-one, digits-more, first-drop, first-end}
 use Rattle.forms.proofs.number.digits.Needs as need
 
@@ -28,11 +28,12 @@ loop-end-again c =
     let xs = c .args .line .now in
     let i = c .loop-end .end in
     let g = c .in-Some .ensures tt in
-    let e : c .in-Some .more ≡ 10 * c .loop-end .value + (getD xs i 0 - 48) = g .1 in
-    (omega arith,
-     omega (arith, g .0 .3),
-     subst (λ v. drop (c .args .at) xs ≡ decimal v ++ drop (i + 1) xs) (sym e) (digits-more _ xs (c .loop-end .value) i (g .0 .2) (omega arith) (g .0 .0) (g .0 .1) (omega (arith, g .0 .3)) (c .loop-end .inv .2)),
-     λ h. omega (arith, g .0 .2))
+    let e : c .in-Some .more ≡ 10 * c .loop-end .value + (getD xs i 0 - 48) = g .1 in (
+      omega arith,
+      omega (arith, g .0 .3),
+      subst (λ v. drop (c .args .at) xs ≡ decimal v ++ drop (i + 1) xs) (sym e) (digits-more _ xs (c .loop-end .value) i (g .0 .2) (omega arith) (g .0 .0) (g .0 .1) (omega (arith, g .0 .3)) (c .loop-end .inv .2)),
+      λ h. omega (arith, g .0 .2),
+    )
 
 pub returns : need.returns
 returns c = record {

@@ -2,17 +2,16 @@ use mathlib.Core.Path.{_≡_, refl, sym, ap, subst, _∙_}
 use mathlib.Core.List.{_∷_}
 use mathlib.Core.Bool.{true}
 use native.Mathlib.Omega.{arith}
-use Prim.Native.Nat.{_<_, _≤_, _+_, _-_, suc}
-use lib.IntN.{ℤ, pos, negsuc, _-ℤ_}
+use Prim.Native.Nat.{_<_, _+_, _-_}
+use lib.IntN.{pos, negsuc, _-ℤ_}
 use lib.ListN.{drop}
 use mir.Val.{toZ, ofZ}
 use mir.Syntax.{w64}
-use Rattle.std.specs.Written.{decimal}
 use Rattle.std.proofs.shelf.Signed.{ints}
 use Rattle.std.proofs.shelf.Lists.{drop-more}
 use Rattle.forms.specs.Faults.{Fault}
 use Rattle.forms.specs.Patterns.{number, Lines}
-use Rattle.forms.specs.Numbers.{first, Took}
+use Rattle.forms.specs.Numbers.{Took}
 use Rattle.forms.proofs.Numbers.{took-minus}
 use Rattle.forms.proofs.Patterns.{minus-stops}
 use Rattle.forms.proofs.number.negative_at.Needs as need
@@ -32,6 +31,8 @@ returns c =
     let y = c .digit-at .ensures .yes (c .if-not-digit-at .left) in
     let some : 0 < n = d .leads (omega (arith, y .1)) in
     let e : toZ w64 (ofZ w64 (pos 0 -ℤ toZ w64 n)) ≡ negsuc (n - 1) = omega (arith, ints, d .fits) in
-    let here = drop-more xs (c .args .at) 0 (c .pre .within) ∙ ap (λ b. b ∷ drop (c .args .at + 1) xs) (c .pre .minus) in
-    (d .within, subst (λ z. Took (c .args .limit) true (drop (c .args .at) xs) z (drop (c .digits-end .result .0) xs)) (sym e)
-      (took-minus (c .args .limit) n _ _ _ some (d .fits) here (d .front) (d .stops)))
+    let here = drop-more xs (c .args .at) 0 (c .pre .within) ∙ ap (λ b. b ∷ drop (c .args .at + 1) xs) (c .pre .minus) in (
+      d .within,
+      subst (λ z. Took (c .args .limit) true (drop (c .args .at) xs) z (drop (c .digits-end .result .0) xs)) (sym e)
+          (took-minus (c .args .limit) n _ _ _ some (d .fits) here (d .front) (d .stops)),
+    )

@@ -1,4 +1,4 @@
-use lib.ListN.{length, take, drop}
+use lib.ListN.{take, drop}
 use Rattle.forms.specs.Patterns.{pieces, fill}
 use Rattle.forms.proofs.Along.{Along}
 use Rattle.forms.proofs.print.length_of.Given as given

@@ -1,28 +1,32 @@
-use mathlib.Core.Path.{_≡_, refl, sym, ap, subst, _∙_}
-use mathlib.Core.List.{_++_, _∷_, []}
+use mathlib.Core.Path.{_≡_, sym, ap, subst, _∙_}
+use mathlib.Core.List.{_++_}
 use native.Mathlib.Omega.{arith}
-use Prim.Native.Nat.{ℕ, _+_, _≤_, _<_, _^_, _*_}
-use lib.IntN.{pos, natAbs}
-use lib.ListN.{length, take, drop, getD, length-take}
+use Prim.Native.Nat.{_+_, _≤_}
+use lib.IntN.{natAbs}
+use lib.ListN.{length, take, drop, length-take}
 use lib.Seq.{take-all}
 use Rattle.std.specs.Written.{signed}
-use mir.Val.{SFits, toZ, ofZ}
+use mir.Val.{SFits}
 use mir.Syntax.{w64}
 use borrow.Author.Needs.{needs}
 use Rattle.std.proofs.shelf.Signed.{toZ-ofZ}
+use Rattle.forms.specs.Fields.{valuesIn}
 use Rattle.forms.specs.Patterns.{pieces, fill, largestAmount}
 use Rattle.forms.specs.Writing.{put}
 use Rattle.forms.proofs.Along.{Along, Here, here, at-piece, at-end, text-along, word-put, byte-put}
-use Rattle.forms.proofs.Puts.{put-set, length-put}
 use Rattle.forms.proofs.print.print.Needs as need
-use Rattle.forms.proofs.print.print.Needs.{in-Some, in-None}
+use Rattle.forms.proofs.print.print.Needs.{In-Some, in-Some, in-None}
+
+-- the number at this place of the pattern
+number-here : (c : In-Some) → Here (fill (pieces (c .args .pattern .now)) (valuesIn (c .args .fields .now))) (drop (c .loop-p .p-index + 1) (pieces (c .args .pattern .now))) (valuesIn (c .args .fields .now)) (c .loop-p .next) (c .loop-p .at)
+number-here c = here _ (c .args .pattern .now) _ (c .loop-p .p-index) (c .loop-p .next) (c .loop-p .at) _ _ (omega arith) (c .in-Some .ensures tt .0) (c .in-Some .ensures tt .1 .1) (c .loop-p .inv .0)
 
 pub amount-requires : need.amount-requires
-amount-requires c κs = let h = here _ (c .args .pattern .now) _ (c .loop-p .p-index) (c .loop-p .next) (c .loop-p .at) _ _ (omega arith) (c .in-Some .ensures tt .0) (c .in-Some .ensures tt .1 .1) (c .loop-p .inv .0) in h .some
+amount-requires c κs = let h = number-here (need.at·amount-requires c .In-Some) in h .some
 
 pub put-number-at-requires : need.put-number-at-requires
 put-number-at-requires c κs =
-    let h = here _ (c .args .pattern .now) _ (c .loop-p .p-index) (c .loop-p .next) (c .loop-p .at) _ _ (omega arith) (c .in-Some .ensures tt .0) (c .in-Some .ensures tt .1 .1) (c .loop-p .inv .0) in
+    let h = number-here (need.at·put-number-at-requires c .In-Some) in
     let fits : SFits w64 (c .amount .result) = search needs in
     let v = toZ-ofZ w64 _ fits ∙ c .amount .ensures in
     let e = ap (λ z. length (signed z)) v in
@@ -30,7 +34,7 @@ put-number-at-requires c κs =
 
 pub add-next : need.add-next
 add-next c =
-    let h = here _ (c .args .pattern .now) _ (c .loop-p .p-index) (c .loop-p .next) (c .loop-p .at) _ _ (omega arith) (c .in-Some .ensures tt .0) (c .in-Some .ensures tt .1 .1) (c .loop-p .inv .0) in
+    let h = number-here (need.at·add-next c .In-Some) in
     omega (arith, h .some, length-take (c .args .fields .now .len) (c .args .fields .now .values), c .args .fields .now .within)
 
 pub index-out-at : need.index-out-at
@@ -45,18 +49,21 @@ loop-p-again c =
     let i = c .loop-p .p-index in
     let room : length (fill ps vs) ≤ length (c .args .out .now) = omega (arith, c .length-of .ensures, c .if-length-of-out .left) in
     elim (c .match-field .came) [
-      in-Some w ↦
-        let h = here _ (c .args .pattern .now) _ (c .loop-p .p-index) (c .loop-p .next) (c .loop-p .at) _ _ (omega arith) (w .in-Some .ensures tt .0) (w .in-Some .ensures tt .1 .1) (c .loop-p .inv .0) in
-        let fits : SFits w64 (w .amount .result) = search needs in
-        let v = toZ-ofZ w64 _ fits ∙ w .amount .ensures in
-        let n = w .at-is ∙ w .put-number-at .ensures .end ∙ ap (λ z. c .loop-p .at + length (signed z)) v in
-        let o = w .out-is ∙ w .put-number-at .ensures .after ∙ ap (λ z. put (c .loop-p .out) (c .loop-p .at) (signed z)) v in
-        (subst (λ j. Along (fill ps vs) (drop (i + 1) ps) (drop j vs) (c .match-field .at)) (sym (w .next-is)) (subst (λ k. Along (fill ps vs) (drop (i + 1) ps) (drop (c .loop-p .next + 1) vs) k) (sym n) (h .next)),
-         word-put (fill ps vs) (c .args .out .now) (c .loop-p .out) (c .loop-p .at) room (c .loop-p .inv .0 .within) (c .loop-p .inv .1) _ _ _ _ (h .left) n o)
-    | in-None w ↦
-        let a = at-piece _ (c .args .pattern .now) i _ _ _ (omega arith) (w .in-None .ensures tt) (c .loop-p .inv .0) in
-        (subst (λ j. Along (fill ps vs) (drop (i + 1) ps) (drop j vs) (c .match-field .at)) (sym (w .next-is)) (subst (λ k. Along (fill ps vs) (drop (i + 1) ps) (drop (c .loop-p .next) vs) k) (sym (w .at-is)) (text-along _ _ _ _ _ a)),
-         byte-put (fill ps vs) (c .args .out .now) (c .loop-p .out) (c .loop-p .at) room (c .loop-p .inv .0 .within) (c .loop-p .inv .1) _ _ _ _ (a .left) (w .at-is) (w .out-is)) ]
+      | in-Some w ↦
+          let h = here _ (c .args .pattern .now) _ (c .loop-p .p-index) (c .loop-p .next) (c .loop-p .at) _ _ (omega arith) (w .in-Some .ensures tt .0) (w .in-Some .ensures tt .1 .1) (c .loop-p .inv .0) in
+          let fits : SFits w64 (w .amount .result) = search needs in
+          let v = toZ-ofZ w64 _ fits ∙ w .amount .ensures in
+          let n = w .at-is ∙ w .put-number-at .ensures .end ∙ ap (λ z. c .loop-p .at + length (signed z)) v in
+          let o = w .out-is ∙ w .put-number-at .ensures .after ∙ ap (λ z. put (c .loop-p .out) (c .loop-p .at) (signed z)) v in (
+            subst (λ j. Along (fill ps vs) (drop (i + 1) ps) (drop j vs) (c .match-field .at)) (sym (w .next-is)) (subst (λ k. Along (fill ps vs) (drop (i + 1) ps) (drop (c .loop-p .next + 1) vs) k) (sym n) (h .next)),
+            word-put (fill ps vs) (c .args .out .now) (c .loop-p .out) (c .loop-p .at) room (c .loop-p .inv .0 .within) (c .loop-p .inv .1) _ _ _ _ (h .left) n o,
+          )
+      | in-None w ↦
+          let a = at-piece _ (c .args .pattern .now) i _ _ _ (omega arith) (w .in-None .ensures tt) (c .loop-p .inv .0) in (
+            subst (λ j. Along (fill ps vs) (drop (i + 1) ps) (drop j vs) (c .match-field .at)) (sym (w .next-is)) (subst (λ k. Along (fill ps vs) (drop (i + 1) ps) (drop (c .loop-p .next) vs) k) (sym (w .at-is)) (text-along _ _ _ _ _ a)),
+            byte-put (fill ps vs) (c .args .out .now) (c .loop-p .out) (c .loop-p .at) room (c .loop-p .inv .0 .within) (c .loop-p .inv .1) _ _ _ _ (a .left) (w .at-is) (w .out-is),
+          )
+    ]
 
 pub returns : need.returns
 returns c =

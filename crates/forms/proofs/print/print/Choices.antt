@@ -1,5 +1,5 @@
 use mathlib.Core.Path.{_≡_}
-use lib.ListN.{length, take, drop}
+use lib.ListN.{take, drop}
 use Rattle.forms.specs.Patterns.{pieces, fill}
 use Rattle.forms.specs.Writing.{put}
 use Rattle.forms.proofs.Along.{Along}
@@ -7,4 +7,4 @@ use Rattle.forms.proofs.print.print.Given as given
 
 abbrev pub Inv-loop-p : given.InvT-loop-p
 Inv-loop-p l = Along (fill (pieces (l .pattern)) (take (l .fields .len) (l .fields .values))) (drop (l .p-index) (pieces (l .pattern))) (drop (l .next) (take (l .fields .len) (l .fields .values))) (l .at)
-  × (l .out ≡ put (l .entry .out) 0 (take (l .at) (fill (pieces (l .pattern)) (take (l .fields .len) (l .fields .values)))))
+    × (l .out ≡ put (l .entry .out) 0 (take (l .at) (fill (pieces (l .pattern)) (take (l .fields .len) (l .fields .values)))))

@@ -1,4 +1,4 @@
-use mathlib.Core.Path.{sym, subst, _∙_}
+use mathlib.Core.Path.{sym, subst}
 use Prim.Native.Nat.{_≤_}
 use lib.ListN.{length}
 use Rattle.std.proofs.shelf.Results.{err-from-errBy}
@@ -7,6 +7,7 @@ use Rattle.forms.specs.Words.{mostWords, spans}
 use Rattle.forms.proofs.Entries.{few-words}
 use Rattle.forms.proofs.Once.{once}
 use Rattle.forms.proofs.Readings.{same-call, same-fault, one-line, fault-place}
+use Rattle.forms.proofs.Runs.{all-runs}
 use Rattle.forms.proofs.reader.read.Needs as need
 
 pub split-requires : need.split-requires
@@ -19,6 +20,7 @@ pub returns : need.returns
 returns c = record {
   value = same-call (c .args .opened) (c .args .line .now) (c .in-Continue-call .call) (c .in-Continue-call .ensures tt);
   words = c .split .ensures;
+  runs = all-runs (c .args .line .now);
   line = one-line (c .args .opened);
   call = once (c .args .opened);
   place = fault-place (c .args .opened);
@@ -31,6 +33,7 @@ returns-in-Break-call c =
     record {
       value = rw (p .1, p .2) f;
       words = rw (p .1) tt;
+      runs = all-runs (c .args .line .now);
       line = one-line (c .args .opened);
       call = once (c .args .opened);
       place = fault-place (c .args .opened);

@@ -1,20 +1,20 @@
-use mathlib.Core.Path.{_≡_, refl, sym, ap, subst, _∙_}
+use mathlib.Core.Path.{_≡_, sym, ap, subst, _∙_}
 use mathlib.Core.List.{_∷_, [], _++_}
 use native.Mathlib.Omega.{arith}
 use mir.Val.{SFits}
 use mir.Syntax.{w64}
 use borrow.Author.Needs.{needs}
 use Rattle.std.proofs.shelf.Signed.{toZ-ofZ}
-use Prim.Native.Nat.{_<_, _+_, _≤_}
+use Prim.Native.Nat.{_<_, _+_}
 use lib.ListN.{length, take, drop, getD}
 use Rattle.std.proofs.shelf.Lists.{length-push, drop-more}
 use Rattle.std.proofs.shelf.Results.{err-from-errBy}
-use Rattle.forms.specs.Patterns.{number, text, pieces, pieceOf}
+use Rattle.forms.specs.Patterns.{number, text, pieces}
 use Rattle.forms.specs.Numbers.{Found, Missing, first}
 use Rattle.forms.specs.declared.cursor.Cursor.{Cursor}
 use Rattle.forms.specs.declared.fields.Fields.{Fields}
 use Rattle.forms.proofs.Numbers.{first-drop}
-use Rattle.forms.proofs.Sofar.{Sofar, start, at-piece, at-end, text-more, text-fails, number-more, number-fails, end-fails, done}
+use Rattle.forms.proofs.Sofar.{Sofar, at-piece, at-end, text-more, text-fails, number-more, number-fails, end-fails, done}
 use Rattle.forms.proofs.scan.scan.Needs as need
 use Rattle.forms.proofs.scan.scan.Needs.{in-Some·in-Continue-value, in-None·in-Continue-text}
 
@@ -43,30 +43,33 @@ loop-p-again c =
     let i = c .loop-p .p-index in
     let P : Cursor → Fields → Type 0 = λ r f. Sofar (pieces (c .args .pattern .now)) xs (drop (i + 1) (pieces (c .args .pattern .now))) (r .at) (take (f .len) (f .values)) × (r .line .now ≡ xs) × (length (take (f .len) (f .values)) ≡ f .len) in
     elim (c .match-field .came) [
-      in-Some·in-Continue-value w ↦
-        let s = at-piece (c .args .pattern .now) xs i _ _ _ (omega arith) (w .in-Some .ensures tt .0) (c .loop-p .inv .0) in
-        let n = w .in-Continue-value .ensures tt in
-        let found = subst (λ ys. Found (w .in-Some .limit) (w .in-Some .minus) ys (c .loop-p .cursor .at) (w .number .last .self .at) (w .in-Continue-value .value)) (c .loop-p .inv .1) (n .next) in
-        let more = number-more _ _ _ _ _ _ _ _ _ (omega (arith, w .in-Some .ensures tt .1 .1)) found s in
-        let fits : SFits w64 (w .in-Continue-value .value) = search needs in
-        let v = w .push .ensures .values ∙ ap (λ z. take (c .loop-p .found .len) (c .loop-p .found .values) ++ (z ∷ [])) (toZ-ofZ w64 _ fits) in
-        let body : P (w .number .last .self) (w .push .last .self) =
-            (subst (λ vs. Sofar (pieces (c .args .pattern .now)) xs (drop (i + 1) (pieces (c .args .pattern .now))) (w .number .last .self .at) vs) (sym v) more,
-             n .line ∙ c .loop-p .inv .1,
-             ap length v ∙ length-push _ _ ∙ ap (λ k. k + 1) (c .loop-p .inv .2) ∙ sym (w .push .ensures .len)) in
-        subst (λ r. P r (c .match-field .found)) (sym (w .cursor-is)) (subst (λ f. P (w .number .last .self) f) (sym (w .found-is)) body)
-    | in-None·in-Continue-text w ↦
-        let s = at-piece (c .args .pattern .now) xs i _ _ _ (omega arith) (w .in-None .ensures tt) (c .loop-p .inv .0) in
-        let n = w .in-Continue-text .ensures tt in
-        let same = c .loop-p .inv .1 in
-        let l : c .loop-p .cursor .at < length xs = omega (arith, ap length same, n .next .0) in
-        let e = drop-more xs (c .loop-p .cursor .at) 0 l ∙ ap (λ b. b ∷ drop (c .loop-p .cursor .at + 1) xs) (sym (ap (λ ys. getD ys (c .loop-p .cursor .at) 0) same) ∙ n .next .1) in
-        let more = text-more _ _ _ _ _ _ l e s in
-        let body : P (w .text .last .self) (c .loop-p .found) =
-            (subst (λ at. Sofar (pieces (c .args .pattern .now)) xs (drop (i + 1) (pieces (c .args .pattern .now))) at (take (c .loop-p .found .len) (c .loop-p .found .values))) (sym (n .next .2)) more,
-             n .line ∙ same,
-             c .loop-p .inv .2) in
-        subst (λ r. P r (c .match-field .found)) (sym (w .cursor-is)) (subst (λ f. P (w .text .last .self) f) (sym (w .found-is)) body) ]
+      | in-Some·in-Continue-value w ↦
+          let s = at-piece (c .args .pattern .now) xs i _ _ _ (omega arith) (w .in-Some .ensures tt .0) (c .loop-p .inv .0) in
+          let n = w .in-Continue-value .ensures tt in
+          let found = subst (λ ys. Found (w .in-Some .limit) (w .in-Some .minus) ys (c .loop-p .cursor .at) (w .number .last .self .at) (w .in-Continue-value .value)) (c .loop-p .inv .1) (n .next) in
+          let more = number-more _ _ _ _ _ _ _ _ _ (omega (arith, w .in-Some .ensures tt .1 .1)) found s in
+          let fits : SFits w64 (w .in-Continue-value .value) = search needs in
+          let v = w .push .ensures .values ∙ ap (λ z. take (c .loop-p .found .len) (c .loop-p .found .values) ++ (z ∷ [])) (toZ-ofZ w64 _ fits) in
+          let body : P (w .number .last .self) (w .push .last .self) = (
+            subst (λ vs. Sofar (pieces (c .args .pattern .now)) xs (drop (i + 1) (pieces (c .args .pattern .now))) (w .number .last .self .at) vs) (sym v) more,
+            n .line ∙ c .loop-p .inv .1,
+            ap length v ∙ length-push _ _ ∙ ap (λ k. k + 1) (c .loop-p .inv .2) ∙ sym (w .push .ensures .len),
+          ) in
+          subst (λ r. P r (c .match-field .found)) (sym (w .cursor-is)) (subst (λ f. P (w .number .last .self) f) (sym (w .found-is)) body)
+      | in-None·in-Continue-text w ↦
+          let s = at-piece (c .args .pattern .now) xs i _ _ _ (omega arith) (w .in-None .ensures tt) (c .loop-p .inv .0) in
+          let n = w .in-Continue-text .ensures tt in
+          let same = c .loop-p .inv .1 in
+          let l : c .loop-p .cursor .at < length xs = omega (arith, ap length same, n .next .0 .0) in
+          let e = drop-more xs (c .loop-p .cursor .at) 0 l ∙ ap (λ b. b ∷ drop (c .loop-p .cursor .at + 1) xs) (sym (ap (λ ys. getD ys (c .loop-p .cursor .at) 0) same) ∙ n .next .0 .1) in
+          let more = text-more _ _ _ _ _ _ l e s in
+          let body : P (w .text .last .self) (c .loop-p .found) = (
+            subst (λ at. Sofar (pieces (c .args .pattern .now)) xs (drop (i + 1) (pieces (c .args .pattern .now))) at (take (c .loop-p .found .len) (c .loop-p .found .values))) (sym (n .next .1)) more,
+            n .line ∙ same,
+            c .loop-p .inv .2,
+          ) in
+          subst (λ r. P r (c .match-field .found)) (sym (w .cursor-is)) (subst (λ f. P (w .text .last .self) f) (sym (w .found-is)) body)
+    ]
 
 pub returns-in-Break-end : need.returns-in-Break-end
 returns-in-Break-end c =

@@ -22,4 +22,3 @@ returns-in-LayTrays c = ap patternOf (sym (c .in-LayTrays .is))
 
 pub returns-in-Report : need.returns-in-Report
 returns-in-Report c = ap patternOf (sym (c .in-Report .is))
-

@@ -1,12 +1,11 @@
-use mathlib.Core.Path.{_≡_, refl, sym, ap, subst, _∙_}
-use mathlib.Core.Bool.{true, false}
+use mathlib.Core.Path.{_≡_, refl, sym, subst, _∙_}
+use mathlib.Core.Bool.{false}
 use mathlib.Core.Logic.{_≢_}
 use native.Mathlib.Omega.{arith}
-use Prim.Native.Nat.{ℕ, _+_, _≤_, _<_}
-use lib.IntN.{pos}
-use lib.ListN.{length, take, drop, getD}
+use Prim.Native.Nat.{ℕ, _+_, _≤_}
+use lib.ListN.{length, take, drop}
 use lib.Seq.{length-take-le}
-use mir.Val.{SFits, toZ, ofZ}
+use mir.Val.{SFits}
 use mir.Syntax.{w64}
 use borrow.Author.Needs.{needs}
 use borrow.Author.Tests.{eqb-true, eqb-false}
@@ -43,12 +42,13 @@ loop-p-again c =
     let n : length (take (c .args .fields .now .len) (c .args .fields .now .values)) ≡ c .args .fields .now .len = search (needs, length-take-le) in
     let P : ℕ → Type 0 = λ j. Rest ps vs (drop (c .loop-p .p-index + 1) ps) (drop j vs) × (j ≤ c .args .fields .now .len) in
     elim (c .match-field .came) [
-      in-Some·else-next-fields·else-not-suits w ↦
-        let fits : SFits w64 (w .amount .result) = search needs in
-        let v = toZ-ofZ w64 _ fits ∙ w .amount .ensures in
-        let h = subst (Suits (w .in-Some .limit) (w .in-Some .minus)) v (w .suits .ensures .yes (w .if-not-suits .left)) in
-        subst P (sym (w .next-is)) (number-rest (c .args .pattern .now) _ (c .loop-p .p-index) (c .loop-p .next) (c .loop-p .inv .0) _ _ (omega arith) (w .in-Some .ensures tt .0) (omega (arith, n, w .if-next-fields .left)) h, omega (arith, w .if-next-fields .left))
-    | in-rest w ↦ subst P (sym (w .next-is)) (text-rest (c .args .pattern .now) _ (c .loop-p .p-index) (c .loop-p .next) (c .loop-p .inv .0) _ (omega arith) (w .in-rest .ensures tt), c .loop-p .inv .1) ]
+      | in-Some·else-next-fields·else-not-suits w ↦
+          let fits : SFits w64 (w .amount .result) = search needs in
+          let v = toZ-ofZ w64 _ fits ∙ w .amount .ensures in
+          let h = subst (Suits (w .in-Some .limit) (w .in-Some .minus)) v (w .suits .ensures .yes (w .if-not-suits .left)) in
+          subst P (sym (w .next-is)) (number-rest (c .args .pattern .now) _ (c .loop-p .p-index) (c .loop-p .next) (c .loop-p .inv .0) _ _ (omega arith) (w .in-Some .ensures tt .0) (omega (arith, n, w .if-next-fields .left)) h, omega (arith, w .if-next-fields .left))
+      | in-rest w ↦ subst P (sym (w .next-is)) (text-rest (c .args .pattern .now) _ (c .loop-p .p-index) (c .loop-p .next) (c .loop-p .inv .0) _ (omega arith) (w .in-rest .ensures tt), c .loop-p .inv .1)
+    ]
 
 pub returns : need.returns
 returns c =

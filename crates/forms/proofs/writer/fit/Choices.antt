@@ -1,4 +1,4 @@
-use lib.ListN.{length, take, drop}
+use lib.ListN.{take, drop}
 use Prim.Native.Nat.{_≤_}
 use Rattle.forms.specs.Patterns.{pieces}
 use Rattle.forms.proofs.Fitting.{Rest}
