@@ -10,7 +10,7 @@ use Rattle.refusal.specs.declared.Refusal.the-variants.{Unreadable}
 use Rattle.refusal.specs.Table.{refusalText}
 use Rattle.model.specs.Ledger.{State, Answer, step}
 use Rattle.model.specs.Ledger.{Call as Asked}
-use Rattle.model.specs.Run.{Reached}
+use Rattle.model.specs.Runs.{Reached}
 use Rattle.forms.specs.declared.calls.Kind.{Kind}
 use Rattle.forms.specs.declared.calls.Call.{Call}
 use Rattle.forms.specs.Reading.{readOf}

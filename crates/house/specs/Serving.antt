@@ -11,7 +11,7 @@ use Rattle.refusal.specs.declared.Refusal.the-variants.{Unreadable}
 use Rattle.refusal.specs.Table.{refusalText}
 use Rattle.model.specs.Ledger.{State, step, lay, report}
 use Rattle.model.specs.Ledger.{Call as Asked}
-use Rattle.model.specs.Run.{Reached}
+use Rattle.model.specs.Runs.{Reached}
 use Rattle.ledger.specs.declared.requests.Request.{Request}
 use Rattle.ledger.specs.Requests.{callOf}
 use Rattle.forms.specs.declared.calls.Kind.{Kind}

@@ -7,7 +7,7 @@ ghost use Rattle.std.specs.Vec.{made};
 ghost use Rattle.ledger.specs.Meaning.{state};
 ghost use Rattle.model.specs.Ledger.{opens};
 ghost use Rattle.model.specs.Ledger.{Call as Calls};
-ghost use Rattle.model.specs.Run.{Reached};
+ghost use Rattle.model.specs.Runs.{Reached};
 ghost use Rattle.shelf.specs.Contents.{emptyContents};
 ghost use Rattle.house.specs.Lines.{linesOf};
 ghost use Rattle.house.specs.Serving.{resultText};

@@ -20,11 +20,11 @@ use Rattle.shelf.specs.declared.records.Bin.{Bin}
 use Rattle.shelf.specs.Bins.{figuresIn}
 use Rattle.shelf.specs.Contents.{Figures, Contents, Sound, nth, binOf, fresh, withBins, canAdd, afterAdd}
 use Rattle.model.specs.Ledger.{State, Call, Answer, lay, report, refused, laid, shown, over, binAt, fitCapacities, fitShelf, leastBins, mostBins, opens, withShelf, act, serve, first, step}
-use Rattle.model.specs.Run.{after, Reached}
+use Rattle.model.specs.Runs.{after, Reached}
 use Rattle.ledger.specs.Answers.{laidBy, shownBy}
 use Rattle.ledger.specs.Owed.{Owed}
 use Rattle.ledger.specs.Working.{badFigures, overLimit, binsFull, layFit, layOf}
-use Rattle.ledger.proofs.Setting.{Setting, setting, after-stays, reached-on}
+use Rattle.model.proofs.Runs.{Fixed, fixed, fixed-after, reached-on}
 
 never : {A : Type 0} → true ≡ false → A
 never e = absurd (let z : _≡_ {A = ℕ} 0 1 = cc in omega arith)
@@ -34,16 +34,19 @@ pub few-bins : (m : State) (cs : List Call) → Reached m cs → m .fit ≡ true
 unfolding fitShelf fitCapacities
 few-bins m cs r f =
     let s = r .0 in
-    let same : setting m ≡ setting (opens (m .house) (m .limit) s) = ap setting (r .1 .1) ∙ after-stays (opens (m .house) (m .limit) s) cs in
-    let cap : m .shelf .binCapacity ≡ s .binCapacity = ap (λ (t : Setting). t .binCapacity) same in
-    let fits : fitShelf s ≡ true = sym (ap (λ (t : Setting). t .fit) same) ∙ f in
+    let same : fixed m ≡ fixed (opens (m .house) (m .limit) s) = ap fixed (r .1 .1) ∙ fixed-after cs (opens (m .house) (m .limit) s) in
+    let cap : m .shelf .binCapacity ≡ s .binCapacity = ap (λ (t : Fixed). t .binCapacity) same in
+    let fits : fitShelf s ≡ true = sym (ap (λ (t : Fixed). t .fit) same) ∙ f in
     ap (λ (n : ℕ). leb n mostBins) cap ∙ grind arith
 
 -- ---- what is owed, by the equation with the reference ledger
 
 pub owed : (m m′ : State) (c : Call) (a : Answer) → ((cs : List Call) → Reached m cs → (a, m′) ≡ step m c)
     → (m .fit ≡ false → a ≡ refused 1) → ((r : ℕ) → a ≡ refused r → m′ ≡ m) → Owed m c a m′
-owed m m′ c a e u k = record { model = λ cs r. (e cs r, reached-on m m′ c a cs r (e cs r)); unfit = u; unmoved = k }
+owed m m′ c a e u k =
+    record
+      { model = λ cs r. (e cs r, subst (λ (x : State). Reached x (cs ++ c ∷ [])) (sym (ap (λ (y : Answer × State). y .1) (e cs r))) (reached-on m cs c r))
+      ; unfit = u; unmoved = k }
 
 -- ---- lay
 

@@ -4,7 +4,7 @@ use mathlib.Core.Bool.{false}
 use mathlib.Core.List.{List, [], _∷_, _++_}
 use Prim.Native.Nat.{ℕ}
 use Rattle.model.specs.Ledger.{State, Call, Answer, refused, step}
-use Rattle.model.specs.Run.{Reached}
+use Rattle.model.specs.Runs.{Reached}
 
 -- the call c on the ledger m is answered a and leaves it at m′
 pub record Owed (m : State) (c : Call) (a : Answer) (m′ : State) : Type 0 where

@@ -2,7 +2,7 @@
 ghost use mathlib.Core.Path.{_≡_};
 ghost use mathlib.Core.List.{[]};
 ghost use Rattle.model.specs.Ledger.{opens, step, lay, report};
-ghost use Rattle.model.specs.Run.{Reached};
+ghost use Rattle.model.specs.Runs.{Reached};
 ghost use Rattle.ledger.specs.Meaning.{state};
 ghost use Rattle.ledger.specs.Answers.{laidBy, shownBy};
 ghost use Rattle.ledger.specs.Owed.{Owed};

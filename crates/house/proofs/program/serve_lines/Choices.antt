@@ -3,7 +3,7 @@ use mathlib.Core.List.{List, _++_}
 use lib.ListN.{length}
 use Rattle.std.specs.Of.String.{string-bytes}
 use Rattle.model.specs.Ledger.{Call}
-use Rattle.model.specs.Run.{Reached}
+use Rattle.model.specs.Runs.{Reached}
 use Rattle.ledger.specs.Meaning.{state}
 use Rattle.house.specs.Lines.{linesOf}
 use Rattle.house.specs.Run.{served}
