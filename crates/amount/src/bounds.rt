@@ -22,5 +22,9 @@ pub(crate) fn sum_within(a: i64, b: i64, l: u64) -> Option<i64>
     ensures range { λ r. ⌜ BySome r (inside (2 * l) (a +ℤ b) ≡ false) (λ n. inside (2 * l) n ≡ true) ⌝ }
 {
     let total = a + b;
-    if lies_within(total, 2 * l) { Some(total) } else { None }
+    if lies_within(total, 2 * l) {
+        Some(total)
+    } else {
+        None
+    }
 }

@@ -20,14 +20,22 @@ impl Grams {
     pub fn new(number: i64) -> Result<Grams, Refusal>
         ensures { λ r. ⌜ made grams r ≡ gramsMade number ⌝ }
     {
-        if lies_within(number, LIMIT) { Ok(Grams { grams: number }) } else { Err(Refusal::OverLimit) }
+        if lies_within(number, LIMIT) {
+            Ok(Grams { grams: number })
+        } else {
+            Err(Refusal::OverLimit)
+        }
     }
 
     // The number meant: a figure outside -2L to 2L means zero.
     pub fn number(self) -> i64
         ensures { λ r. ⌜ r ≡ grams self ⌝ }
     {
-        if lies_within(self.grams, 2 * LIMIT) { self.grams } else { 0 }
+        if lies_within(self.grams, 2 * LIMIT) {
+            self.grams
+        } else {
+            0
+        }
     }
 }
 
@@ -44,7 +52,9 @@ pub impl Amount for Grams as GramsAmount {
     }
 
     fn opposite(self) -> Grams {
-        Grams { grams: -self.number() }
+        Grams {
+            grams: -self.number(),
+        }
     }
 
     fn less_than(self, other: Grams) -> bool {

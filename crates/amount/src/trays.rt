@@ -40,7 +40,10 @@ impl Trays {
         if loose > LOOSE as u32 {
             return Err(Refusal::UnevenTray);
         }
-        Ok(Trays { trays: trays as i32, loose: loose as u8 })
+        Ok(Trays {
+            trays: trays as i32,
+            loose: loose as u8,
+        })
     }
 
     // The number meant: figures with too many loose pieces, or outside -2L to 2L, mean zero.
@@ -48,7 +51,11 @@ impl Trays {
         ensures { λ r. ⌜ r ≡ pieces self ⌝ }
     {
         let n = self.trays as i64 * TRAY + self.loose as i64;
-        if self.loose <= LOOSE && lies_within(n, 2 * LIMIT) { n } else { 0 }
+        if self.loose <= LOOSE && lies_within(n, 2 * LIMIT) {
+            n
+        } else {
+            0
+        }
     }
 
     // The full trays and the loose pieces that are meant, divided downwards so that loose is never negative.
@@ -67,7 +74,10 @@ impl Trays {
     {
         let trays = n.div_euclid(TRAY);
         let loose = n.rem_euclid(TRAY);
-        Trays { trays: trays as i32, loose: loose as u8 }
+        Trays {
+            trays: trays as i32,
+            loose: loose as u8,
+        }
     }
 }
 

@@ -30,8 +30,9 @@ module _ (k : Kind) (s : State) (line : List ℕ) where
       → ((cs : List Asked) → Reached s cs → ((a, s′) ≡ step s m) × ((ds : List Asked) × Reached s′ ds)) → text ≡ saidText k (binIn c) a
       → Served s text s′ (serveLine k s line)
   unfolding serveLine
-  call-served c m a s′ text e q f t = λ cs r.
-      (ap (λ (x : List ℕ). (x, s′)) t
-      ∙ (ap (λ (x : Answer × State). (saidText k (binIn c) (x .0), x .1)) (f cs r .0)
-      ∙ (ap (serveCall k s (binIn c)) q ∙ ap (serveRead k s) (sym e))),
-      f cs r .1)
+  call-served c m a s′ text e q f t = λ cs r. (
+    ap (λ (x : List ℕ). (x, s′)) t
+        ∙ (ap (λ (x : Answer × State). (saidText k (binIn c) (x .0), x .1)) (f cs r .0)
+        ∙ (ap (serveCall k s (binIn c)) q ∙ ap (serveRead k s) (sym e))),
+    f cs r .1,
+  )

@@ -1,4 +1,8 @@
 -- What a run prints for what it reads.
+--   openingOf   the house that a line opens
+--   served      what an open house prints for its lines
+--   unopened    what is printed while no house is open, and then by the house
+--   output      what is printed for a text
 use mathlib.Core.Bool.{Bool, true, false, cond, _&&_}
 use mathlib.Core.List.{List, [], _∷_, _++_}
 use Prim.Native.Nat.{ℕ}

@@ -20,6 +20,10 @@ pub struct Range {
 pub enum Answer {
     Opened(u32),
     Laid(u32),
-    Bin { bin: u32, limits: Limits, range: Range },
+    Bin {
+        bin: u32,
+        limits: Limits,
+        range: Range,
+    },
     Refused(u32),
 }

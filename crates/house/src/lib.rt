@@ -1,6 +1,6 @@
 // The runner: one line in, one answer out.
 
-pub mod answer;
+mod answer;
 mod kind;
 mod lines;
 mod memory;

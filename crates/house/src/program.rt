@@ -56,7 +56,11 @@ fn print(out: &mut String, result: Result<Answer, Refusal>) -> Result<(), OutOfM
 }
 
 // Serves each line of the text.
-fn serve_lines<K: Written, S: Shelf<Kind = K>>(ledger: &mut Ledger<S>, text: &[u8], out: &mut String) -> Result<(), OutOfMemory>
+fn serve_lines<K: Written, S: Shelf<Kind = K>>(
+    ledger: &mut Ledger<S>,
+    text: &[u8],
+    out: &mut String,
+) -> Result<(), OutOfMemory>
     ensures { λ r. ⌜ made r (λ _. (cs : List Calls) → Reached (state (K·Amount .limit) (S·Shelf .contents) (now (ledger .entry))) cs → string-bytes (now (out .exit)) ≡ string-bytes (now (out .entry)) ++ served (K·Written .kind) (state (K·Amount .limit) (S·Shelf .contents) (now (ledger .entry))) (linesOf (now (text .entry)))) ⌝ }
 {
     let mut left = text;
@@ -68,7 +72,12 @@ fn serve_lines<K: Written, S: Shelf<Kind = K>>(ledger: &mut Ledger<S>, text: &[u
 }
 
 // Opens a ledger on the shelf and serves the text.
-fn work<K: Written, S: Shelf<Kind = K> + Drop>(house: u32, shelf: S, text: &[u8], out: &mut String) -> Result<(), OutOfMemory>
+fn work<K: Written, S: Shelf<Kind = K> + Drop>(
+    house: u32,
+    shelf: S,
+    text: &[u8],
+    out: &mut String,
+) -> Result<(), OutOfMemory>
     ensures { λ r. ⌜ made r (λ _. string-bytes (now (out .exit)) ≡ string-bytes (now (out .entry)) ++ served (K·Written .kind) (opens house (K·Amount .limit) (S·Shelf .contents shelf)) (linesOf (now (text .entry)))) ⌝ }
 {
     let mut ledger = Ledger::open(house, shelf);
@@ -76,17 +85,36 @@ fn work<K: Written, S: Shelf<Kind = K> + Drop>(house: u32, shelf: S, text: &[u8]
 }
 
 // The same on a flat shelf with memory of its own.
-fn work_flat<K: Written>(heap: Global, form: HouseForm, text: &[u8], out: &mut String) -> Result<(), OutOfMemory>
+fn work_flat<K: Written>(
+    heap: Global,
+    form: HouseForm,
+    text: &[u8],
+    out: &mut String,
+) -> Result<(), OutOfMemory>
     ensures { λ r. ⌜ made r (λ _. string-bytes (now (out .exit)) ≡ string-bytes (now (out .entry)) ++ served (K·Written .kind) (opens (form .house) (K·Amount .limit) (emptyContents (form .bins) (form .grants))) (linesOf (now (text .entry)))) ⌝ }
 {
     let zero = K::default();
-    let mut bins = vec![in heap; Bin { min: zero, max: zero, inf: zero, val: zero, sup: zero }; form.bins as usize]?;
+    let mut bins = vec![in heap; Bin {
+        min: zero,
+        max: zero,
+        inf: zero,
+        val: zero,
+        sup: zero
+    }; form.bins as usize]?;
     let mut grants = vec![in heap; None; form.grants as usize]?;
-    work(form.house, FlatShelf::new(&mut bins, &mut grants), text, out)
+    work(
+        form.house,
+        FlatShelf::new(&mut bins, &mut grants),
+        text,
+        out,
+    )
 }
 
 // Answers the lines up to the one that opens a house; what follows it is for that house.
-fn find_house<'a>(text: &'a [u8], out: &mut String) -> Result<Option<(HouseForm, &'a [u8])>, OutOfMemory>
+fn find_house<'a>(
+    text: &'a [u8],
+    out: &mut String,
+) -> Result<Option<(HouseForm, &'a [u8])>, OutOfMemory>
     ensures { λ r. ⌜ made r (λ o. BySome o (string-bytes (now (out .exit)) ≡ string-bytes (now (out .entry)) ++ unopened (linesOf (now (text .entry))))
         (λ p. string-bytes (now (out .exit)) ++ served (p .0 .kind) (ledgerOf (p .0)) (linesOf (p .1 .now)) ≡ string-bytes (now (out .entry)) ++ unopened (linesOf (now (text .entry))))) ⌝ }
 {

@@ -27,7 +27,11 @@ fn request<K: Written>(call: Call) -> Result<Request<K>, Refusal>
 {
     match call {
         Call::House(_) => Err(Refusal::Unreadable { place: 0 }),
-        Call::Lay { min, max, now } => Ok(Request::Lay { min: K::make(min)?, max: K::make(max)?, start: K::make(now)? }),
+        Call::Lay { min, max, now } => Ok(Request::Lay {
+            min: K::make(min)?,
+            max: K::make(max)?,
+            start: K::make(now)?,
+        }),
         Call::Report { bin } => Ok(Request::Report { bin }),
     }
 }
@@ -38,7 +42,11 @@ fn bin_in(call: Call) -> u32
 {
     match call {
         Call::House(_) => 0,
-        Call::Lay { min: _, max: _, now: _ } => 0,
+        Call::Lay {
+            min: _,
+            max: _,
+            now: _,
+        } => 0,
         Call::Report { bin } => bin,
     }
 }
@@ -47,9 +55,20 @@ fn bin_in(call: Call) -> u32
 fn reported<K: Written>(number: u32, bin: Bin<K>) -> Answer
     ensures { λ r. ⌜ r ≡ answer.Bin number (limitsIn (K·Written .kind) (figures (K·Amount .means) bin)) (rangeIn (K·Written .kind) (figures (K·Amount .means) bin)) ⌝ }
 {
-    let limits = Limits { min: bin.min.figures(), max: bin.max.figures() };
-    let range = Range { inf: bin.inf.figures(), val: bin.val.figures(), sup: bin.sup.figures() };
-    Answer::Bin { bin: number, limits, range }
+    let limits = Limits {
+        min: bin.min.figures(),
+        max: bin.max.figures(),
+    };
+    let range = Range {
+        inf: bin.inf.figures(),
+        val: bin.val.figures(),
+        sup: bin.sup.figures(),
+    };
+    Answer::Bin {
+        bin: number,
+        limits,
+        range,
+    }
 }
 
 // The answer that the ledger's word makes.
@@ -64,7 +83,10 @@ fn answer_to<K: Written>(bin: u32, said: Said<K>) -> Answer
 }
 
 // Serves one line; a fault in it goes up with its place.
-pub(crate) fn serve_line<K: Written, S: Shelf<Kind = K>>(ledger: &mut Ledger<S>, line: &[u8]) -> Result<Answer, Refusal>
+pub(crate) fn serve_line<K: Written, S: Shelf<Kind = K>>(
+    ledger: &mut Ledger<S>,
+    line: &[u8],
+) -> Result<Answer, Refusal>
     ensures { λ r. ⌜ Served (state (K·Amount .limit) (S·Shelf .contents) (now (ledger .entry))) (resultText r) (state (K·Amount .limit) (S·Shelf .contents) (now (ledger .exit))) (serveLine (K·Written .kind) (state (K·Amount .limit) (S·Shelf .contents) (now (ledger .entry))) (now (line .entry))) ⌝ }
 {
     let reading = read(Some(K::kind()), line)?;

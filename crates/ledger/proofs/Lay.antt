@@ -44,9 +44,11 @@ few-bins m cs r f =
 pub owed : (m m′ : State) (c : Call) (a : Answer) → ((cs : List Call) → Reached m cs → (a, m′) ≡ step m c)
     → (m .fit ≡ false → a ≡ refused 1) → ((r : ℕ) → a ≡ refused r → m′ ≡ m) → Owed m c a m′
 owed m m′ c a e u k =
-    record
-      { model = λ cs r. (e cs r, subst (λ (x : State). Reached x (cs ++ c ∷ [])) (sym (ap (λ (y : Answer × State). y .1) (e cs r))) (reached-on m cs c r))
-      ; unfit = u; unmoved = k }
+    record {
+      model = λ cs r. (e cs r, subst (λ (x : State). Reached x (cs ++ c ∷ [])) (sym (ap (λ (y : Answer × State). y .1) (e cs r))) (reached-on m cs c r));
+      unfit = u;
+      unmoved = k;
+    }
 
 -- ---- lay
 

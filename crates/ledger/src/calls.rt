@@ -20,7 +20,12 @@ impl<S: Shelf> Ledger<S> {
         ensures reached { λ r. ⌜ Reached (state (Kind·Amount .limit) (S·Shelf .contents) r) [] ⌝ }
     {
         let fit = checks::is_fit(&shelf);
-        Ledger { house, fit, last: 0, shelf }
+        Ledger {
+            house,
+            fit,
+            last: 0,
+            shelf,
+        }
     }
 
     // Adds a bin with INF, VAL and SUP at its start, and answers its number.

@@ -10,14 +10,19 @@ use shelf::Shelf;
 pub fn fits(bins: usize, grants: usize) -> bool
     ensures { λ r. ⌜ r ≡ fitCapacities bins grants ⌝ }
 {
-    (bins >= limits::LEAST_BINS) & (bins <= limits::MOST_BINS) & (grants >= limits::LEAST_GRANTS) & (grants <= limits::MOST_GRANTS)
+    (bins >= limits::LEAST_BINS)
+        & (bins <= limits::MOST_BINS)
+        & (grants >= limits::LEAST_GRANTS)
+        & (grants <= limits::MOST_GRANTS)
 }
 
 // Whether a ledger can work on the shelf: its capacities lie within the limits, and it holds nothing.
 pub(crate) fn is_fit<S: Shelf>(shelf: &S) -> bool
     ensures { λ r. ⌜ r ≡ fitShelf (S·Shelf .contents (now (shelf .entry))) ⌝ }
 {
-    fits(shelf.bin_capacity(), shelf.grant_capacity()) & (shelf.bin_count() == 0) & (shelf.grant_count() == 0)
+    fits(shelf.bin_capacity(), shelf.grant_capacity())
+        & (shelf.bin_count() == 0)
+        & (shelf.grant_count() == 0)
 }
 
 // Whether the floor lies above the ceiling, or the start outside them.

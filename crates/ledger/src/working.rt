@@ -10,7 +10,12 @@ use refusal::Refusal;
 use shelf::Shelf;
 
 impl<S: Shelf> Ledger<S> {
-    pub(crate) fn work_lay(&mut self, min: S::Kind, max: S::Kind, start: S::Kind) -> Result<u32, Refusal>
+    pub(crate) fn work_lay(
+        &mut self,
+        min: S::Kind,
+        max: S::Kind,
+        start: S::Kind,
+    ) -> Result<u32, Refusal>
         ensures { λ r. ⌜ (r, state (Kind·Amount .limit) (S·Shelf .contents) (now (self .exit))) ≡ layOf (state (Kind·Amount .limit) (S·Shelf .contents) (now (self .entry))) (Kind·Amount .means min) (Kind·Amount .means max) (Kind·Amount .means start) ⌝ }
     {
         if !self.fit {

@@ -1,4 +1,4 @@
--- What each call makes of the meaning of a flat shelf. Assumes nothing.
+-- What each call makes of the meaning of a flat shelf.
 use mathlib.Core.Path.{_≡_, refl, sym, ap, ap₂, fun-ext, _∙_}
 use mathlib.Core.Bool.{Bool, true, false, cond, not, _&&_}
 use mathlib.Core.List.{List, [], _∷_, _++_, map}
@@ -49,7 +49,6 @@ module _ {A : Type 0} (f : A → ℤ) where
   change-none F (b ∷ bs) (suc n) (suc i) h = ap (λ t. figures f b ∷ t) (change-none F bs n i (omega arith))
 
   module _ (bs : List (Bin A)) (n : ℕ) (gs : List (Option (Grant A))) (m : ℕ) where
-
     pub add-yes : n ≤ length bs → n < length bs → true ≡ canAdd (flatContents f bs n gs m)
     unfolding canAdd
     add-yes h l = sym (ap (λ k. ltb k (length bs)) (flat-length bs n h) ∙ lt-ltb n (length bs) l)

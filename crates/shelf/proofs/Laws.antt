@@ -1,4 +1,4 @@
--- Laws of the records of the flat shelf. Assumes nothing.
+-- Laws of the records of a flat shelf: searches, and what a written place changes.
 use mathlib.Core.Path.{_≡_, refl, sym, ap, subst, _∙_}
 use mathlib.Core.Bool.{Bool, true, false, cond, not, _&&_}
 use mathlib.Core.List.{List, [], _∷_}
@@ -10,6 +10,7 @@ use Rattle.std.specs.Options.{isSome}
 use Rattle.std.proofs.shelf.Tests.{cond-true, cond-false, and-parts, and-from, eqb-true, eq-eqb, not-true, not-from-false, both-ways}
 use Rattle.shelf.specs.Contents.{regrant}
 use Rattle.shelf.specs.Soundness.{used-room}
+use Rattle.shelf.specs.OtherBatch.{by-test, some-hit}
 use lib.ListN.{length, getD, set, drop, replicate}
 use Rattle.std.specs.Orderings.{Decides}
 use Rattle.std.specs.declared.option.Option.{Option}
@@ -34,10 +35,6 @@ module _ {X : Type 0} (p : X → Bool) (xs : List X) (i : ℕ) where
   pub sought-all : Sought → length xs ≤ i → None ≡ firstFrom p 0 xs
   sought-all inv h = sym (inv ∙ at-drop-all (firstFrom p i) xs i h)
 
-pub by-test : {P : Type 0} (t : Bool) → (t ≡ true → P) → (t ≡ false → P) → P
-by-test true y n = y refl
-by-test false y n = n refl
-
 -- where a search ended
 pub record FoundAt {X Y : Type 0} (p : X → Bool) (v : X → Y) (e : Y) (d : X) (n : ℕ) (xs : List X) (j : ℕ) : Type 0 where
   pub at : ℕ
@@ -52,9 +49,9 @@ module _ {X Y : Type 0} (p : X → Bool) (v : X → Y) (e : Y) where
   found-from d n (x ∷ xs) j h =
       by-test (p x)
       (λ y. let same : n ≡ j = (let q : Some n ≡ Some j = sym (cond-true (p x) (Some n) (firstFrom p (n + 1) xs) y) ∙ h in cc) in
-        record { at = 0; is = omega arith; within = omega arith; passes = y; picks = cond-true (p x) (v x) (pick p v e xs) y })
+      record { at = 0; is = omega arith; within = omega arith; passes = y; picks = cond-true (p x) (v x) (pick p v e xs) y })
       (λ y. let r = found-from d (n + 1) xs j (sym (cond-false (p x) (Some n) (firstFrom p (n + 1) xs) y) ∙ h) in
-        record { at = suc (r .at); is = omega (arith, r .is); within = omega (arith, r .within); passes = r .passes; picks = cond-false (p x) (v x) (pick p v e xs) y ∙ r .picks })
+      record { at = suc (r .at); is = omega (arith, r .is); within = omega (arith, r .within); passes = r .passes; picks = cond-false (p x) (v x) (pick p v e xs) y ∙ r .picks })
 
   pub none-found : (n : ℕ) (xs : List X) → firstFrom p n xs ≡ None → pick p v e xs ≡ e
   none-found n [] h = refl
@@ -89,16 +86,6 @@ key-moves F b k c q h =
     cc
 
 module _ {A : Type 0} where
-  pub some-hit : (f : A → ℤ) (b k : ℕ) (xs : List (Option (Grant A))) (i : ℕ) → hit b k (getD xs i None) ≡ true → isSome (granted f xs b k) ≡ true
-  some-hit f b k [] i h = absurd (let z : _≡_ {A = ℕ} 0 1 = cc in omega arith)
-  some-hit f b k (None ∷ xs) zero h = absurd (let z : _≡_ {A = ℕ} 0 1 = cc in omega arith)
-  some-hit f b k (Some g ∷ xs) zero h = ap isSome (cond-true (hit b k (Some g)) (Some (f (g .amount))) (granted f xs b k) h)
-  some-hit f b k (None ∷ xs) (suc i) h = some-hit f b k xs i h
-  some-hit f b k (Some g ∷ xs) (suc i) h =
-      by-test (hit b k (Some g))
-      (λ y. ap isSome (cond-true (hit b k (Some g)) (Some (f (g .amount))) (granted f xs b k) y))
-      (λ y. ap isSome (cond-false (hit b k (Some g)) (Some (f (g .amount))) (granted f xs b k) y) ∙ some-hit f b k xs i h)
-
   -- a grant is there exactly where the search finds its place
   pub like-first : (f : A → ℤ) (b k n : ℕ) (xs : List (Option (Grant A))) → isSome (granted f xs b k) ≡ isSome (firstFrom (hit b k) n xs)
   like-first f b k n [] = refl
@@ -146,9 +133,9 @@ module _ {A : Type 0} where
       let parts = and-parts (missing (Some g) xs) (apart xs) a in
       ap (cond (hit c q (Some g)) (Some (f (g .amount)))) (take-granted f b k c q xs i h (parts .1))
       ∙ swap (hit c q (Some g)) (eqb b c && eqb k q) (Some (f (g .amount))) None (granted f xs c q)
-        (λ y. by-test (hit c q (Some g))
-          (λ u. absurd (both-ways _ (not-true _ (parts .0)) (key-moves (λ m n. isSome (granted (λ _. pos 0) xs m n)) (g .bin) (g .batch) c q u ∙ sym (key-moves (λ m n. isSome (granted (λ _. pos 0) xs m n)) b k c q y) ∙ some-hit (λ _. pos 0) b k xs i h)))
-          (λ n. n))
+      (λ y. by-test (hit c q (Some g))
+      (λ u. absurd (both-ways _ (not-true _ (parts .0)) (key-moves (λ m n. isSome (granted (λ _. pos 0) xs m n)) (g .bin) (g .batch) c q u ∙ sym (key-moves (λ m n. isSome (granted (λ _. pos 0) xs m n)) b k c q y) ∙ some-hit (λ _. pos 0) b k xs i h)))
+      (λ n. n))
 
   pub apart-put : (r : Grant A) (xs : List (Option (Grant A))) (j : ℕ) → j < length xs → free (getD xs j None) ≡ true → granted (λ _. pos 0) xs (r .bin) (r .batch) ≡ None → apart xs ≡ true → apart (set xs j (Some r)) ≡ true
   apart-put r [] j l h e a = absurd (omega arith)
@@ -200,7 +187,6 @@ module _ {A : Type 0} where
   -- a free place leaves room
   pub room-free : (r : Grant A) (xs : List (Option (Grant A))) (j : ℕ) → j < length xs → free (getD xs j None) ≡ true → used xs < length xs
   room-free r xs j l h = omega (arith, used-put r xs j l h, used-room (set xs j (Some r)), length-set xs j (Some r))
-
 
 -- places that are all free
 pub used-none : (A : Type 0) (n : ℕ) → used {A = A} (replicate n None) ≡ 0

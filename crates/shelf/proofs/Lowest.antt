@@ -1,4 +1,4 @@
--- The lowest bin of a batch. Assumes nothing.
+-- The search for the lowest bin of a batch finds it.
 use mathlib.Core.Path.{_≡_, refl, sym, ap, subst, _∙_}
 use mathlib.Core.Bool.{Bool, true, false, cond, _&&_}
 use mathlib.Core.List.{List, [], _∷_}
@@ -16,7 +16,7 @@ use Rattle.std.proofs.shelf.Tests.{cond-true, cond-false, and-parts, and-from, 
 use Rattle.shelf.specs.declared.records.Grant.{Grant}
 use Rattle.shelf.specs.Contents.{Tells}
 use Rattle.shelf.specs.Flat.{hit, granted, binOf, lesser, lowestOf}
-use Rattle.shelf.proofs.Laws.{by-test, some-hit}
+use Rattle.shelf.specs.OtherBatch.{by-test, some-hit}
 
 lesser-assoc : (o p q : Option ℕ) → lesser (lesser o p) q ≡ lesser o (lesser p q)
 lesser-assoc None p q = refl

@@ -1,4 +1,4 @@
--- A bin of amounts by the numbers that they mean. Assumes nothing.
+-- A bin of amounts by the numbers that they mean.
 use lib.IntN.{ℤ}
 use Rattle.std.specs.declared.option.Option.{Option}
 use Rattle.std.specs.declared.option.Option.the-variants.{Some, None}

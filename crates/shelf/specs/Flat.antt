@@ -1,4 +1,10 @@
--- What the records of the flat shelf mean. Assumes nothing.
+-- What the records of a flat shelf mean: a grant's place holds it, and any other place is free.
+--   hit, other, free       what one place holds
+--   firstFrom, pick        the first place that passes a test; what it is worth
+--   granted                the amount granted to a batch in a bin
+--   lowestOf               the lowest bin of a batch
+--   used, apart, placedIn  how many places are used; no two grants alike; every grant in a bin below the capacity
+--   flatContents           the contents that bins and places mean
 use mathlib.Core.Path.{_≡_}
 use mathlib.Core.Bool.{Bool, true, false, cond, not, _&&_}
 use mathlib.Core.List.{List, [], _∷_, map}
@@ -11,7 +17,6 @@ use Rattle.std.specs.declared.option.Option.{Option}
 use Rattle.std.specs.declared.option.Option.the-variants.{Some, None}
 use Rattle.shelf.specs.declared.records.Grant.{Grant}
 use Rattle.shelf.specs.declared.records.Bin.{Bin}
-use Rattle.shelf.specs.Contents.{Figures}
 use Rattle.shelf.specs.Bins.{figures}
 use Rattle.shelf.specs.Contents.{Contents}
 
@@ -30,11 +35,13 @@ abbrev pub binOf : {A : Type 0} → ℕ → Option (Grant A) → Option ℕ
 binOf k None = None
 binOf k (Some g) = cond (eqb (g .batch) k) (Some (g .bin)) None
 
+-- the lower of two numbers that may be none
 abbrev pub lesser : Option ℕ → Option ℕ → Option ℕ
 lesser None o = o
 lesser (Some a) None = Some a
 lesser (Some a) (Some b) = Some (min a b)
 
+-- the lowest bin in which a place holds a grant of batch k
 abbrev pub lowestOf : {A : Type 0} → ℕ → List (Option (Grant A)) → Option ℕ
 lowestOf k [] = None
 lowestOf k (x ∷ xs) = lesser (binOf k x) (lowestOf k xs)

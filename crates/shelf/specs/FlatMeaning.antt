@@ -1,4 +1,4 @@
--- What a flat shelf means. Assumes nothing.
+-- The contents that a flat shelf means.
 use denote.Ref.{now}
 use lib.IntN.{ℤ}
 use Rattle.shelf.specs.declared.flat.FlatShelf.{FlatShelf}

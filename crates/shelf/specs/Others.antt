@@ -1,4 +1,4 @@
--- Whether another batch holds a grant in a bin of a flat shelf. Assumes nothing.
+-- Whether another batch holds a grant in a bin of a flat shelf.
 use mathlib.Core.Path.{refl}
 use mathlib.Core.Bool.{Bool}
 use Prim.Native.Nat.{ℕ}

@@ -1,4 +1,4 @@
--- Every flat shelf keeps within its places, and with none used grants nothing. Assumes nothing.
+-- Every flat shelf is sound: it keeps within its capacities, and grants only where it counts grants and has bins.
 use mathlib.Core.Path.{_≡_, refl, sym, subst, _∙_}
 use mathlib.Core.List.{List, [], _∷_, map}
 use Prim.Native.Nat.{ℕ, _≤_}
@@ -39,6 +39,7 @@ module _ {A : Type 0} where
     where
       here : g .bin < m
       here = ltb-true (g .bin) m (and-parts (ltb (g .bin) m) (placedIn m xs) p .0)
+
       go : (t : Bool) → eqb (g .bin) b ≡ t → (u : Bool) → isSome (cond (t && u) (Some (f (g .amount))) (granted f xs b k)) ≡ true → (isSome (granted f xs b k) ≡ true → b < m) → b < m
       go true q true e ih = subst (λ (c : ℕ). c < m) (eqb-true (g .bin) b q) here
       go true q false e ih = ih e

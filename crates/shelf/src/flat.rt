@@ -21,4 +21,3 @@ pub struct FlatShelf<'a, A> {
     ghost distinct: { apart (now grants) ≡ true },
     ghost placed: { placedIn (length (now bins)) (now grants) ≡ true },
 }
-

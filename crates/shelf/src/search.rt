@@ -21,7 +21,11 @@ pub(crate) fn holds<A: Amount>(place: Option<Grant<A>>, bin: u32, batch: u32) ->
 }
 
 // The first place that holds the grant of the bin and the batch.
-pub(crate) fn position<A: Amount>(records: &[Option<Grant<A>>], bin: u32, batch: u32) -> Option<usize>
+pub(crate) fn position<A: Amount>(
+    records: &[Option<Grant<A>>],
+    bin: u32,
+    batch: u32,
+) -> Option<usize>
     ensures first { λ r. ⌜ r ≡ firstFrom (hit bin batch) 0 (now (records .entry)) ⌝ }
     ensures within { λ r. ⌜ BySome r (Unit {0}) (λ i. i < length (now (records .entry))) ⌝ }
 {

@@ -30,7 +30,10 @@ fn trays_are_refused_over_the_limit_before_uneven() -> Result<(), Fail> {
     check_eq(refused(Trays::new(0, 24)), 16)?;
     check_eq(refused(Trays::new(1_000_000, 0)), 0)?;
     check_eq(refused(Trays::new(1_000_000, 24)), 3)?;
-    check_eq(refused(Trays::new(999_999_999_999_999_999, 4_294_967_295)), 3)
+    check_eq(
+        refused(Trays::new(999_999_999_999_999_999, 4_294_967_295)),
+        3,
+    )
 }
 
 #[test]

@@ -24,11 +24,32 @@ fn faults_have_their_places() -> Result<(), Fail> {
     check_eq(place(Some(Kind::Grams), b"(report 01)"), 9)?;
     check_eq(place(Some(Kind::Grams), b"(report  0)"), 8)?;
     check_eq(place(Some(Kind::Grams), b"(report 4294967296)"), 17)?;
-    check_eq(place(Some(Kind::Grams), b"(lay (min (g -0)) (max (g 20)) (now (g 15)))"), 14)?;
-    check_eq(place(Some(Kind::Grams), b"(lay (min (g 1000000000000000000)) (max (g 20)) (now (g 15)))"), 31)?;
-    check_eq(place(Some(Kind::Grams), b"(lay (min (tl 1 0)) (max (tl 2 0)) (now (tl 1 5)))"), 11)?;
+    check_eq(
+        place(
+            Some(Kind::Grams),
+            b"(lay (min (g -0)) (max (g 20)) (now (g 15)))",
+        ),
+        14,
+    )?;
+    check_eq(
+        place(
+            Some(Kind::Grams),
+            b"(lay (min (g 1000000000000000000)) (max (g 20)) (now (g 15)))",
+        ),
+        31,
+    )?;
+    check_eq(
+        place(
+            Some(Kind::Grams),
+            b"(lay (min (tl 1 0)) (max (tl 2 0)) (now (tl 1 5)))",
+        ),
+        11,
+    )?;
     check_eq(place(Some(Kind::Trays), b"(report 0)\xff"), 10)?;
-    check_eq(place(Some(Kind::Grams), b"(house 8 (kind g) (shelf flat 2 64))"), 1)
+    check_eq(
+        place(Some(Kind::Grams), b"(house 8 (kind g) (shelf flat 2 64))"),
+        1,
+    )
 }
 
 #[test]
@@ -49,6 +70,13 @@ fn a_short_buffer_is_left_alone() -> Result<(), Fail> {
     check(matches!(written, Err(Unreadable { place: 0 })) && out == [b'.'; 10])?;
     let written = write(Some(Kind::Trays), &Call::Report { bin: 3 }, &mut out);
     check(matches!(written, Ok(10)) && out == *b"(report 3)")?;
-    let mixed = Call::Lay { min: Figures::Grams(1), max: Figures::Trays { trays: 1, loose: 0 }, now: Figures::Grams(1) };
-    check(matches!(write(Some(Kind::Grams), &mixed, &mut out), Err(Unreadable { place: 0 })))
+    let mixed = Call::Lay {
+        min: Figures::Grams(1),
+        max: Figures::Trays { trays: 1, loose: 0 },
+        now: Figures::Grams(1),
+    };
+    check(matches!(
+        write(Some(Kind::Grams), &mixed, &mut out),
+        Err(Unreadable { place: 0 })
+    ))
 }

@@ -51,8 +51,16 @@ fn trays_are_laid_and_reported(rt: LibcRuntime) -> Result<(), Fail> {
 fn lines_end_in_a_byte_of_their_own(rt: LibcRuntime) -> Result<(), Fail> {
     prints(rt.alloc(), b"", "")?;
     prints(rt.alloc(), b"\n", "(refused 17 (at 0))\n")?;
-    prints(rt.alloc(), b"(house 4294967295 (kind g) (shelf flat 512 2048))\r\n", "(refused 17 (at 49))\n")?;
-    prints(rt.alloc(), b"(house 4294967295 (kind g) (shelf flat 512 2048))", "(opened 4294967295)\n")
+    prints(
+        rt.alloc(),
+        b"(house 4294967295 (kind g) (shelf flat 512 2048))\r\n",
+        "(refused 17 (at 49))\n",
+    )?;
+    prints(
+        rt.alloc(),
+        b"(house 4294967295 (kind g) (shelf flat 512 2048))",
+        "(opened 4294967295)\n",
+    )
 }
 
 #[test]

@@ -8,6 +8,8 @@ ghost use Rattle.shelf.specs.Contents.{emptyContents};
 ghost use Rattle.shelf.specs.Soundness.{flat-sound};
 ghost use Rattle.shelf.specs.Others.{flat-others, flat-others-decided};
 ghost use Rattle.shelf.specs.FlatMeaning.{flatMeaning};
+use super::FlatShelf;
+use crate::Shelf;
 use crate::records::Bin;
 use crate::records::Grant;
 use crate::search::amount_in;
@@ -17,8 +19,6 @@ use crate::search::find_in;
 use crate::search::free_place;
 use crate::search::lowest_in;
 use crate::search::position;
-use crate::Shelf;
-use super::FlatShelf;
 use amount::Amount;
 
 impl<'a, A: Amount> FlatShelf<'a, A> {
@@ -27,7 +27,12 @@ impl<'a, A: Amount> FlatShelf<'a, A> {
         ensures { λ r. ⌜ flatMeaning (A·Amount .means) r ≡ emptyContents (length (now (bins .entry))) (length (now (grants .entry))) ⌝ }
     {
         clear(grants);
-        FlatShelf { bins, bins_used: 0, grants, grants_used: 0 }
+        FlatShelf {
+            bins,
+            bins_used: 0,
+            grants,
+            grants_used: 0,
+        }
     }
 
     // The place of the grant of the bin and the batch.
@@ -67,7 +72,11 @@ pub impl<'a, A: Amount> Shelf for FlatShelf<'a, A> as FlatShelfShelf {
 
     fn bin(&self, bin: u32) -> Option<Bin<A>> {
         let i = bin as usize;
-        if i < self.bins_used { Some(bin_at(&*self.bins, i)) } else { None }
+        if i < self.bins_used {
+            Some(bin_at(&*self.bins, i))
+        } else {
+            None
+        }
     }
 
     fn add_bin(&mut self, min: A, max: A, start: A) -> bool {
@@ -75,7 +84,13 @@ pub impl<'a, A: Amount> Shelf for FlatShelf<'a, A> as FlatShelfShelf {
         if i >= self.bins.len() {
             return false;
         }
-        self.bins[i] = Bin { min, max, inf: start, val: start, sup: start };
+        self.bins[i] = Bin {
+            min,
+            max,
+            inf: start,
+            val: start,
+            sup: start,
+        };
         self.bins_used = i + 1;
         true
     }
@@ -86,7 +101,13 @@ pub impl<'a, A: Amount> Shelf for FlatShelf<'a, A> as FlatShelfShelf {
             return false;
         }
         let old = self.bins[i];
-        self.bins[i] = Bin { min: old.min, max: old.max, inf, val, sup };
+        self.bins[i] = Bin {
+            min: old.min,
+            max: old.max,
+            inf,
+            val,
+            sup,
+        };
         true
     }
 

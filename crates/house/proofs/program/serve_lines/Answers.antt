@@ -9,12 +9,13 @@ use Rattle.house.proofs.program.serve_lines.Needs as need
 pub loop-line-again : need.loop-line-again
 loop-line-again g c = λ cs r.
     let before = c .loop-line .inv cs r in
-    let now = c .serve-line .ensures (before .1 .0) (before .1 .1) in
-    (one-served (g .K·Written .kind) (state (g .K·Amount .limit) (g .S·Shelf .contents) (c .loop-line .ledger)) (state (g .K·Amount .limit) (g .S·Shelf .contents) (c .serve-line .last .ledger))
-      (c .in-Some .line .now) (linesOf (c .in-Some .rest .now)) (linesOf (c .loop-line .left .now)) (string-bytes (c .loop-line .out)) (string-bytes (c .print .last .out)) (resultText (c .serve-line .result))
-      (c .in-Some .ensures tt .0) (now .0) (c .in-Continue-print .ensures tt)
-    ∙ before .0,
-    now .1)
+    let now = c .serve-line .ensures (before .1 .0) (before .1 .1) in (
+      one-served (g .K·Written .kind) (state (g .K·Amount .limit) (g .S·Shelf .contents) (c .loop-line .ledger)) (state (g .K·Amount .limit) (g .S·Shelf .contents) (c .serve-line .last .ledger))
+          (c .in-Some .line .now) (linesOf (c .in-Some .rest .now)) (linesOf (c .loop-line .left .now)) (string-bytes (c .loop-line .out)) (string-bytes (c .print .last .out)) (resultText (c .serve-line .result))
+          (c .in-Some .ensures tt .0) (now .0) (c .in-Continue-print .ensures tt)
+          ∙ before .0,
+      now .1,
+    )
 
 pub returns : need.returns
 returns g c = λ cs r.

@@ -13,8 +13,8 @@ abbrev pub Inv-loop-line : given.InvT-loop-line
 Inv-loop-line g l =
     (cs : List Call) → Reached (state (g .K·Amount .limit) (g .S·Shelf .contents) (l .entry .ledger)) cs
     → (string-bytes (l .out) ++ served (g .K·Written .kind) (state (g .K·Amount .limit) (g .S·Shelf .contents) (l .ledger)) (linesOf (l .left))
-        ≡ string-bytes (l .entry .out) ++ served (g .K·Written .kind) (state (g .K·Amount .limit) (g .S·Shelf .contents) (l .entry .ledger)) (linesOf (l .entry .left)))
-      × ((ds : List Call) × Reached (state (g .K·Amount .limit) (g .S·Shelf .contents) (l .ledger)) ds)
+    ≡ string-bytes (l .entry .out) ++ served (g .K·Written .kind) (state (g .K·Amount .limit) (g .S·Shelf .contents) (l .entry .ledger)) (linesOf (l .entry .left)))
+    × ((ds : List Call) × Reached (state (g .K·Amount .limit) (g .S·Shelf .contents) (l .ledger)) ds)
 
 abbrev pub μ-loop-line : given.MeasureT-loop-line
 μ-loop-line g l = length (l .left)

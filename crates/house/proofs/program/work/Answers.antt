@@ -10,5 +10,5 @@ pub returns : need.returns
 returns g c =
     made-weaker (c .serve-lines .result) _ _
     (λ x h. h [] (c .open-ledger .ensures .reached)
-      ∙ ap (λ s. string-bytes (c .args .out .now) ++ served (g .K·Written .kind) s (linesOf (c .args .text .now))) (c .open-ledger .ensures .opened))
+    ∙ ap (λ s. string-bytes (c .args .out .now) ++ served (g .K·Written .kind) s (linesOf (c .args .text .now))) (c .open-ledger .ensures .opened))
     (c .serve-lines .ensures)

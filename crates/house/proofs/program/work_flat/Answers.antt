@@ -18,5 +18,5 @@ returns g c =
     let grants : length (c .deref-mut-2 .result .now) ≡ c .args .form .grants = c .deref-mut-2 .ensures .len ∙ c .in-Continue-grants .ensures tt .made .1 in
     made-weaker (c .work .result) _ _
     (λ x h. h ∙ ap (λ (s : Contents). string-bytes (c .args .out .now) ++ served (g .K·Written .kind) (opens (c .args .form .house) (g .K·Amount .limit) s) (linesOf (c .args .text .now)))
-      (c .new .ensures ∙ ap₂ emptyContents bins grants))
+    (c .new .ensures ∙ ap₂ emptyContents bins grants))
     (c .work .ensures)

@@ -2,7 +2,8 @@ use mathlib.Core.Path.{sym, _∙_}
 use native.Mathlib.Omega.{arith}
 use Rattle.std.specs.declared.option.Option.the-variants.{None}
 use Rattle.shelf.specs.Flat.{hit, amountIn}
-use Rattle.shelf.proofs.Laws.{found, Found, none-found, some-hit, used-take, apart-take}
+use Rattle.shelf.specs.OtherBatch.{some-hit}
+use Rattle.shelf.proofs.Laws.{found, none-found, used-take, apart-take}
 use Rattle.shelf.proofs.InPlace.{placed-take}
 use Rattle.shelf.specs.Contents.{amountAt}
 use Rattle.shelf.proofs.Changes.{take-done, take-none}
@@ -27,8 +28,10 @@ returns-in-Some g c =
     let s = c .args .self .now in
     let read = found (hit (c .args .bin) (c .args .batch)) (amountIn f) None (c .index-self-i .result) (s .grants .now) (c .in-Some .i) (c .in-Some .ensures tt .first) in
     let at = found (hit (c .args .bin) (c .args .batch)) (amountIn f) None None (s .grants .now) (c .in-Some .i) (c .in-Some .ensures tt .first) in
-    record { answer = c .amount-in-answer .ensures ∙ sym (read .picks);
-      after = take-done f (s .bins .now) (s .«bins_used») (s .grants .now) (s .«grants_used») (c .args .bin) (c .args .batch) (c .in-Some .i) (at .passes) (s .distinct) (some-hit f (c .args .bin) (c .args .batch) (s .grants .now) (c .in-Some .i) (at .passes)) }
+    record {
+      answer = c .amount-in-answer .ensures ∙ sym (read .picks);
+      after = take-done f (s .bins .now) (s .«bins_used») (s .grants .now) (s .«grants_used») (c .args .bin) (c .args .batch) (c .in-Some .i) (at .passes) (s .distinct) (some-hit f (c .args .bin) (c .args .batch) (s .grants .now) (c .in-Some .i) (at .passes));
+    }
 
 pub returns-in-None : need.returns-in-None
 unfolding amountAt
