@@ -18,7 +18,7 @@ trayLimit = 24000000
 abbrev pub inPieces : ℤ → ℕ → ℤ
 inPieces t l = t *ℤ pos 24 +ℤ pos l
 
--- trays mean their pieces; with more than 23 loose they mean nothing
+-- trays mean their pieces; with more than 23 loose they mean zero
 abbrev pub pieces : Trays → ℤ
 pieces t = cond (leb (t .loose) 23) (figure trayLimit (inPieces (t .trays) (t .loose))) (pos 0)
 

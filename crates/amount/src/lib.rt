@@ -10,7 +10,7 @@ mod bounds;
 pub mod grams;
 pub mod trays;
 
-// A kind of amount has a limit L of at least 1, and each value means a whole number from -2L to 2L.
+// Every kind has a limit L, 1 or more; a value stands for some whole number between -2L and 2L.
 pub trait Amount: Copy {
     ghost means: { Self → ℤ };
 
@@ -20,11 +20,11 @@ pub trait Amount: Copy {
 
     law bounded: { (x : Self) → inside (2 * limit) (means x) ≡ true };
 
-    // The exact sum, none exactly where it lies outside -2L to 2L.
+    // Adds without loss; there is no sum just where it would pass -2L or 2L.
     fn checked_add(self, other: Self) -> Option<Self>
         ensures { λ r. ⌜ meant means r ≡ sum limit (means self) (means other) ⌝ };
 
-    // The same number with the other sign.
+    // Reverses the sign.
     fn opposite(self) -> Self
         ensures { λ r. ⌜ means r ≡ negℤ (means self) ⌝ };
 

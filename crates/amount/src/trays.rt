@@ -27,7 +27,7 @@ pub struct Trays {
 }
 
 impl Trays {
-    // An amount from outside numbers, refused over the limit, then where more is loose than fills a tray.
+    // An amount from outside numbers: first the limit is checked, then that 0 to 23 pieces are loose.
     pub fn new(trays: i64, loose: u32) -> Result<Trays, Refusal>
         ensures { λ r. ⌜ made pieces r ≡ traysMade trays loose ⌝ }
     {
@@ -46,7 +46,7 @@ impl Trays {
         })
     }
 
-    // The number meant: figures with too many loose pieces, or outside -2L to 2L, mean zero.
+    // The pieces meant, or 0 for figures that stand for no amount.
     pub fn number(self) -> i64
         ensures { λ r. ⌜ r ≡ pieces self ⌝ }
     {

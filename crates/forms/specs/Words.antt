@@ -9,7 +9,7 @@ use lib.ListN.{length, take, getD}
 use Rattle.std.specs.shelf.Lists.{between}
 use Rattle.forms.specs.declared.split.Words.{Words}
 
--- a line has at most so many words
+-- a legal line has at most so many words
 abbrev pub mostWords : ℕ
 mostWords = 13
 

@@ -24,14 +24,14 @@ fn stands_at(line: &[u8], at: usize, b: u8) -> bool
 }
 
 impl<'a> Cursor<'a> {
-    pub fn new(line: &'a [u8]) -> Cursor<'a>
+    pub(crate) fn new(line: &'a [u8]) -> Cursor<'a>
         ensures { λ r. ⌜ r .line .now ≡ now (line .entry) ⌝ ∗ ⌜ r .at ≡ 0 ⌝ }
     {
         Cursor { line, at: 0 }
     }
 
     // The line's next byte is `b`.
-    pub fn text(&mut self, b: u8) -> Result<(), Unreadable>
+    pub(crate) fn text(&mut self, b: u8) -> Result<(), Unreadable>
         ensures line { λ _. ⌜ now (self .exit) .line .now ≡ now (self .entry) .line .now ⌝ }
         ensures next { λ r. ⌜ Cases r
             (λ _. Stands (now (self .entry) .line .now) (now (self .entry) .at) b × (now (self .exit) .at ≡ now (self .entry) .at + 1))
@@ -45,7 +45,7 @@ impl<'a> Cursor<'a> {
     }
 
     // The line goes on with a number.
-    pub fn number(&mut self, limit: u64, minus: bool) -> Result<i64, Unreadable>
+    pub(crate) fn number(&mut self, limit: u64, minus: bool) -> Result<i64, Unreadable>
         requires { ⌜ Limit limit ⌝ }
         ensures line { λ _. ⌜ now (self .exit) .line .now ≡ now (self .entry) .line .now ⌝ }
         ensures next { λ r. ⌜ Cases r
@@ -58,7 +58,7 @@ impl<'a> Cursor<'a> {
     }
 
     // Nothing is left of the line.
-    pub fn end(&self) -> Result<(), Unreadable>
+    pub(crate) fn end(&self) -> Result<(), Unreadable>
         ensures { λ r. ⌜ Cases r
             (λ _. length (now (self .entry) .line .now) ≤ now (self .entry) .at)
             (λ e. (e .place ≡ now (self .entry) .at) × (now (self .entry) .at < length (now (self .entry) .line .now))) ⌝ }

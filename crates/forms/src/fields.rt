@@ -19,7 +19,7 @@ pub struct Fields {
 }
 
 impl Fields {
-    pub fn new() -> Fields
+    pub(crate) fn new() -> Fields
         ensures { λ r. ⌜ take (r .len) (r .values) ≡ [] ⌝ ∗ ⌜ r .len ≡ 0 ⌝ }
     {
         Fields {
@@ -29,7 +29,7 @@ impl Fields {
     }
 
     // The number at `i`.
-    pub fn amount(&self, i: usize) -> i64
+    pub(crate) fn amount(&self, i: usize) -> i64
         requires { ⌜ i < length (take (now self .len) (now self .values)) ⌝ }
         ensures { λ r. ⌜ r ≡ getD (take (now (self .entry) .len) (now (self .entry) .values)) i (pos 0) ⌝ }
     {
@@ -37,14 +37,14 @@ impl Fields {
     }
 
     // The number at `i`, which is a count.
-    pub fn count(&self, i: usize) -> u32
+    pub(crate) fn count(&self, i: usize) -> u32
         requires { ⌜ i < length (take (now self .len) (now self .values)) ⌝ ∗ ⌜ Suits largestCount false (getD (take (now self .len) (now self .values)) i (pos 0)) ⌝ }
         ensures { λ r. ⌜ pos r ≡ getD (take (now (self .entry) .len) (now (self .entry) .values)) i (pos 0) ⌝ }
     {
         self.amount(i) as u32
     }
 
-    pub fn push(&mut self, value: i64)
+    pub(crate) fn push(&mut self, value: i64)
         requires { ⌜ now self .len < mostFields ⌝ }
         ensures values { λ _. ⌜ take (now (self .exit) .len) (now (self .exit) .values) ≡ take (now (self .entry) .len) (now (self .entry) .values) ++ (value ∷ []) ⌝ }
         ensures len { λ _. ⌜ now (self .exit) .len ≡ now (self .entry) .len + 1 ⌝ }

@@ -87,7 +87,7 @@ fn negative_at(line: &[u8], at: usize, limit: u64) -> Result<(usize, i64), Unrea
 }
 
 // The end and the value of the number at `at`.
-pub fn number_at(
+pub(crate) fn number_at(
     line: &[u8],
     at: usize,
     limit: u64,

@@ -80,7 +80,7 @@ fn length_of(pattern: &[u8], fields: &Fields) -> usize
 }
 
 // Writes the line to the front of `out`, and answers its length, or refuses where `out` is too short.
-pub fn print(pattern: &[u8], fields: &Fields, out: &mut [u8]) -> Result<usize, Unreadable>
+pub(crate) fn print(pattern: &[u8], fields: &Fields, out: &mut [u8]) -> Result<usize, Unreadable>
     requires fits { ⌜ Fits (pieces (now pattern)) (valuesIn (now fields)) ⌝ }
     requires short { ⌜ length (now pattern) ≤ longestPattern ⌝ }
     ensures { λ r. ⌜ Cases r

@@ -18,7 +18,7 @@ const LARGEST_COUNT: u64 = 4_294_967_295;
 const LARGEST_AMOUNT: u64 = 999_999_999_999_999_999;
 
 // The limit of the number that a pattern's byte stands for, and whether it may have a minus.
-pub fn field(b: u8) -> Option<(u64, bool)>
+pub(crate) fn field(b: u8) -> Option<(u64, bool)>
     ensures { λ r. ⌜ BySome r (pieceOf b ≡ text b) (λ f. (pieceOf b ≡ number (f .0) (f .1)) × Limit (f .0)) ⌝ }
 {
     if b == b'#' {
@@ -31,7 +31,7 @@ pub fn field(b: u8) -> Option<(u64, bool)>
 }
 
 // The numbers of the line.
-pub fn scan(pattern: &[u8], line: &[u8]) -> Result<Fields, Unreadable>
+pub(crate) fn scan(pattern: &[u8], line: &[u8]) -> Result<Fields, Unreadable>
     requires sound { ⌜ Sound (pieces (now pattern)) ⌝ }
     requires few { ⌜ fieldCount (pieces (now pattern)) ≤ mostFields ⌝ }
     ensures { λ r. ⌜ Cases r

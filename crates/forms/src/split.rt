@@ -78,7 +78,7 @@ impl<'a> Words<'a> {
 }
 
 // The words of the line.
-pub fn split<'a>(line: &'a [u8]) -> Words<'a>
+pub(crate) fn split<'a>(line: &'a [u8]) -> Words<'a>
     requires { ⌜ length (spans (now line)) ≤ mostWords ⌝ }
     ensures { λ r. ⌜ Holds r (now (line .entry)) ⌝ }
 {

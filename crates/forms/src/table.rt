@@ -23,7 +23,7 @@ pub enum Form {
     Report,
 }
 
-pub fn pattern(form: Form) -> &'static [u8]
+pub(crate) fn pattern(form: Form) -> &'static [u8]
     ensures { λ r. ⌜ now r ≡ patternOf form ⌝ }
 {
     match form {
@@ -38,7 +38,7 @@ pub fn pattern(form: Form) -> &'static [u8]
 }
 
 // The forms that are legal before the house opens, and then in its kind.
-pub fn forms(opened: Option<Kind>) -> &'static [Form]
+pub(crate) fn forms(opened: Option<Kind>) -> &'static [Form]
     ensures { λ r. ⌜ now r ≡ formsOf opened ⌝ }
 {
     match opened {
@@ -74,7 +74,7 @@ fn lay_form(min: Figures) -> Form
 }
 
 // The form in which a call is written. That of a `lay` goes by its least amount.
-pub fn form_of(call: &Call) -> Form
+pub(crate) fn form_of(call: &Call) -> Form
     ensures { λ r. ⌜ r ≡ formOf (now (call .entry)) ⌝ }
 {
     match call {
@@ -99,7 +99,7 @@ fn push_figures(fields: &mut Fields, figures: Figures)
 }
 
 // The numbers of a call.
-pub fn fields_of(call: &Call) -> Fields
+pub(crate) fn fields_of(call: &Call) -> Fields
     ensures { λ r. ⌜ valuesIn r ≡ valuesOf (now (call .entry)) ⌝ }
 {
     let mut fields = Fields::new();
@@ -137,7 +137,7 @@ fn house(kind: Kind, layout: Layout, fields: &Fields) -> Call
 }
 
 // The call that a form writes with these numbers.
-pub fn call_of(form: Form, fields: &Fields) -> Call
+pub(crate) fn call_of(form: Form, fields: &Fields) -> Call
     requires { ⌜ Fits (pieces (patternOf form)) (valuesIn (now fields)) ⌝ }
     ensures { λ r. ⌜ r ≡ callOf form (valuesIn (now (fields .entry))) ⌝ }
 {

@@ -1,4 +1,4 @@
--- The lines of a text: each ends in byte 10, and a last one without it counts if it holds any byte.
+-- The lines of a text: byte 10 ends one, and bytes that follow the last byte 10 are one too.
 use mathlib.Core.Bool.{cond}
 use mathlib.Core.List.{List, [], _∷_}
 use Prim.Native.Nat.{ℕ}

@@ -1,4 +1,4 @@
-// The runner: one line in, one answer out.
+// The runner: it serves a house line by line, and a whole run is one function.
 
 mod answer;
 mod kind;

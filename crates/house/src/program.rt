@@ -132,7 +132,7 @@ fn find_house<'a>(
     Ok(None)
 }
 
-// What is printed for what was read.
+// What is printed for what was read. The error is left free: it says that memory ran out, and no contract can say when.
 pub fn run(heap: Global, text: &[u8]) -> Result<String, OutOfMemory>
     ensures { λ r. ⌜ made r (λ out. string-bytes out ≡ output (now (text .entry))) ⌝ }
 {

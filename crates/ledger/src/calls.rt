@@ -1,7 +1,7 @@
 // The ledger's calls: wherever calls have led it, each answers and leaves what the reference ledger does.
 ghost use mathlib.Core.Path.{_≡_};
 ghost use mathlib.Core.List.{[]};
-ghost use Rattle.model.specs.Ledger.{opens, step, lay, report};
+ghost use Rattle.model.specs.Ledger.{opens, lay, report};
 ghost use Rattle.model.specs.Runs.{Reached};
 ghost use Rattle.ledger.specs.Meaning.{state};
 ghost use Rattle.ledger.specs.Answers.{laidBy, shownBy};

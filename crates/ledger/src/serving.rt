@@ -1,4 +1,4 @@
-// One call for every line of work.
+// Any call of the ledger, as a request.
 ghost use Rattle.ledger.specs.Meaning.{state};
 ghost use Rattle.ledger.specs.Owed.{Owed};
 ghost use Rattle.ledger.specs.Requests.{callOf, saidOf};

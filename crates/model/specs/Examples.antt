@@ -6,11 +6,15 @@
 use mathlib.Core.Path.{_≡_}
 use mathlib.Core.List.{List, [], _∷_, _++_, map}
 use Prim.Native.Nat.{ℕ, zero, suc}
-use lib.IntN.{ℤ, pos, negsuc, negℤ}
+use lib.IntN.{ℤ, pos, negsuc, negℤ, _+ℤ_}
 use Rattle.std.specs.declared.option.Option.the-variants.{Some}
+use Rattle.std.specs.declared.result.Result.{Result}
+use Rattle.std.specs.declared.result.Result.the-variants.{Ok, Err}
 use Rattle.amount.specs.Range.{sum}
-use Rattle.amount.specs.Grams.{gramLimit}
-use Rattle.amount.specs.Trays.{trayLimit, inPieces}
+use Rattle.refusal.specs.declared.Refusal.{Refusal}
+use Rattle.refusal.specs.declared.Refusal.the-variants.{OverLimit, UnevenTray}
+use Rattle.amount.specs.Grams.{gramLimit, gramsMade}
+use Rattle.amount.specs.Trays.{trayLimit, inPieces, fullTrays, loosePieces, traysMade}
 use Rattle.shelf.specs.Contents.{Figures, Contents, emptyContents}
 use Rattle.model.specs.Ledger.{Token, State, Call, Answer, opened, waiting, spoilt, opens, step, binAt}
 use Rattle.model.specs.Ledger.{lay, begin, ask, look, again, close, drop, keep, undo, report}
@@ -31,6 +35,10 @@ pub data Example : Type 0 where
   added : ℕ → ℤ → ℤ → ℤ → Example
   -- the amount has this opposite
   opposed : ℤ → ℤ → Example
+  -- so many pieces are so many full trays and so many loose
+  split : ℤ → ℤ → ℕ → Example
+  -- what making answers
+  making : Result ℤ Refusal → Result ℤ Refusal → Example
 
 abbrev pub holds : Example → Type 0
 holds (answered m c a) = step m c .0 ≡ a
@@ -38,6 +46,8 @@ holds (listed m cs xs) = map (λ x. x .1) (told m cs) ≡ xs
 holds (figured m cs x) = binAt (after m cs .shelf .bins) 0 ≡ x
 holds (added limit a b c) = sum limit a b ≡ Some c
 holds (opposed a b) = negℤ a ≡ b
+holds (split z t l) = _≡_ {A = ℤ × ℕ} (fullTrays z, loosePieces z) (t, l)
+holds (making r x) = r ≡ x
 
 abbrev pub AllHold : List Example → Type 0
 AllHold [] = Unit {0}
@@ -125,6 +135,15 @@ examples =
     -- trays
     ∷ added trayLimit (inPieces (pos 0) 23) (inPieces (pos 0) 1) (inPieces (pos 1) 0)
     ∷ opposed (inPieces (pos 0) 1) (inPieces (negsuc 0) 23)
+    ∷ split (inPieces (pos 0) 23 +ℤ inPieces (pos 0) 1) (pos 1) 0
+    ∷ split (negℤ (inPieces (pos 0) 1)) (negsuc 0) 23
+    -- making
+    ∷ making (traysMade (pos 0) 24) (Err UnevenTray)
+    ∷ making (traysMade (pos 1000000) 24) (Err OverLimit)
+    ∷ making (gramsMade (pos 1000000000001)) (Err OverLimit)
+    ∷ making (gramsMade (negsuc 999999999999)) (Ok (negsuc 999999999999))
+    -- a shelf that holds something at opening
+    ∷ answered (opens 7 gramLimit (after opening (laying ∷ []) .shelf)) (report 0) (refused 1)
     -- at most 64 batches are closed, and a batch holds at most 16 grants
     ∷ answered (after opening (rounds 63)) (begin 64) (begun 64)
     ∷ answered (after opening (rounds 64)) (begin 65) (refused 8)

@@ -106,8 +106,8 @@ onMark effective w y h = y
 onMark pending w y h = h
 onMark neither w y h = w
 
--- a lay writes a bin; a granted ask, at once or by again, an entry; a waiting ask is noted for its again;
--- drop and undo wipe off their batch's entries, and keep adds them to their bases first; nothing else changes the journal
+-- accepted lays add bins, granted asks add entries, and an ask that waits is remembered;
+-- settling removes a batch's entries, which a keep has put into the bases before
 unfoldable pub feed : Journal → Call → Answer → Journal
 feed w (lay low high start) a = onMark (mark a) w (addBin w (record { floor = low; ceiling = high; base = start })) w
 feed w (begin n) a = w

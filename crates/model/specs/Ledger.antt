@@ -3,7 +3,7 @@
 --   Call, Answer                   what is asked, what is answered
 --   fitShelf, opens                a shelf that a ledger can work on; a ledger as it is opened
 --   checks                         for each call the tests that refuse it, with their numbers, in order
---   verdict                        how an ask is judged: every ending inside, none inside, or in doubt
+--   verdict                        how an ask is judged: granted, failed, or in doubt
 --   act, step                      what an accepted call does; one call on the ledger
 use mathlib.Core.Bool.{Bool, true, false, not, _&&_, _||_, cond}
 use mathlib.Core.List.{List, [], _∷_, _++_}
@@ -229,7 +229,7 @@ pub data Verdict : Type 0 where
 abbrev pub inside : Figures → ℤ → Bool
 inside x e = leZ (x .floor) e && leZ e (x .ceiling)
 
--- the lowest and the highest with d: both inside and a grant place free; both below the floor or both above the ceiling
+-- d is tried on INF and on SUP: a grant needs both inside and a free place, and a failure both outside on one side
 abbrev pub verdict : Figures → Bool → ℤ → Verdict
 verdict x free d =
     cond (inside x (x .inf +ℤ d) && inside x (x .sup +ℤ d) && free) grant
@@ -289,7 +289,7 @@ abbrev pub peek : State → ℕ → ℕ → Bool → Answer × State
 peek s n b true = (waits, withActive s (looking n b))
 peek s n b false = (seen (binAt (s .shelf .bins) b .val), withActive s (working n))
 
--- what is held is judged once more
+-- the held ask or look is tried anew
 abbrev pub rejudge : State → Active → Answer × State
 rejudge s vacant = (refused 9, s)
 rejudge s (working n) = (refused 9, s)

@@ -2,7 +2,7 @@
 --   VerdictsExact     an ask is granted, fails or waits as all its outcomes say
 --   FiguresExact      INF and SUP are the least and the greatest that any ending leaves, VAL what is left when all are kept
 --   SchedulesAlike    one script, worked at two schedules, is decided alike, and leaves equal bins
---   NoIdleWait        with no closed batch left nothing waits
+--   NoIdleWait        with no closed batch left again never answers waits
 --   SumsInRange       no sum lies outside twice the limit
 --   OthersAreRivals   asking the closed batches is asking every other batch
 --   UnfitRefuses      a ledger opened on an unfit shelf refuses every call
@@ -66,7 +66,7 @@ FiguresExact = Always FiguresAt
 
 -- ---- schedules
 
--- what was decided in both was decided alike: the same word and, if seen, the same amount
+-- an item that stands in both logs stands in them with one answer
 abbrev pub DecidedAlike : Progress → Progress → Type 0
 DecidedAlike p q =
     (n i : ℕ) (a b : Answer)

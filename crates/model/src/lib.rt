@@ -17,7 +17,7 @@ pub fn schedules_are_alike()
     ensures { λ _. ⌜ SchedulesAlike ⌝ }
 {}
 
-// With no closed batch left nothing waits.
+// With no closed batch left again never answers waits.
 pub fn no_wait_is_idle()
     ensures { λ _. ⌜ NoIdleWait ⌝ }
 {}

@@ -7,19 +7,19 @@ use Rattle.refusal.specs.declared.Refusal.{Refusal}
 use Rattle.refusal.specs.declared.Refusal.the-variants.{UnfitShelf, BadFigures, OverLimit, Trading, BinsFull, BatchActive, OldNumber, QueueFull, StrangeToken, NoSuchBin, NothingAsked, AskedAlready, BatchFull, NotItsTurn, UnknownBatch, UnevenTray, Unreadable}
 
 abbrev pub numberOf : Refusal → ℕ
--- any call: at opening the shelf had capacities outside the limits, or held something
+-- any call on a ledger that was opened on a shelf out of limits or in use
 numberOf UnfitShelf = 1
 -- lay: the floor above the ceiling, or the start outside them
 numberOf BadFigures = 2
 -- an amount outside -L to L
 numberOf OverLimit = 3
--- lay after the first accepted begin
+-- lay once a batch has been begun
 numberOf Trading = 4
 -- lay with every bin place used
 numberOf BinsFull = 5
 -- begin while a batch is active
 numberOf BatchActive = 6
--- begin with a number not above the last
+-- begin at or below the last number
 numberOf OldNumber = 7
 -- begin with 64 closed batches in the queue
 numberOf QueueFull = 8
@@ -37,12 +37,12 @@ numberOf BatchFull = 13
 numberOf NotItsTurn = 14
 -- keep or undo of a batch that is not in the queue
 numberOf UnknownBatch = 15
--- more loose pieces than fill a tray
+-- loose pieces other than 0 to 23
 numberOf UnevenTray = 16
--- a line that is no legal form, with its place
+-- reading: no legal line, with the place; writing: no legal line for the call, or too short a buffer
 numberOf (Unreadable place) = 17
 
--- the place of a refusal that has one
+-- the place of a refusal that has one, and the end of the answer
 abbrev pub placeText : Refusal → List ℕ
 placeText (Unreadable place) = codes " (at " ++ (decimal place ++ codes "))")
 placeText UnfitShelf = codes ")"

@@ -79,7 +79,7 @@ abbrev pub used : {A : Type 0} → List (Option (Grant A)) → ℕ
 used [] = 0
 used (x ∷ xs) = one x + used xs
 
--- no two grants share both numbers
+-- no place repeats the bin and batch of another
 abbrev pub missing : {A : Type 0} → Option (Grant A) → List (Option (Grant A)) → Bool
 missing None xs = true
 missing (Some g) xs = not (isSome (granted (λ _. pos 0) xs (g .bin) (g .batch)))

@@ -15,7 +15,7 @@ pub mod flat;
 pub mod records;
 mod search;
 
-// A refused change, a question and an answer of none leave the contents as they were; a freed place serves again.
+// Contents change only as an accepted change says, so a place that was freed can be used once more.
 pub trait Shelf {
     type Kind: Amount;
 
@@ -23,7 +23,7 @@ pub trait Shelf {
 
     ghost sound: { (s : Self) → Sound (contents s) };
 
-    // whether a batch other than the one named holds a grant in a bin
+    // of a bin and a batch: is some other batch granted anything in the bin?
     ghost others: { Self → ℕ → ℕ → Bool };
 
     ghost decided: { (s : Self) (b k : ℕ) → Decides (others s b k) (Another (contents s) b k) };
@@ -58,7 +58,7 @@ pub trait Shelf {
     fn lowest_bin(&self, batch: u32) -> Option<u32>
         ensures { λ r. ⌜ Tells (contents (now (self .entry)) .grants) batch r ⌝ };
 
-    // Whether a batch other than the one named holds a grant in the bin.
+    // Whether any batch but this one is granted something in the bin.
     fn another_holds(&self, bin: u32, batch: u32) -> bool
         ensures { λ r. ⌜ r ≡ others (now (self .entry)) bin batch ⌝ };
 
