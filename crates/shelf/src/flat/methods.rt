@@ -84,13 +84,7 @@ pub impl<'a, A: Amount> Shelf for FlatShelf<'a, A> as FlatShelfShelf {
         if i >= self.bins.len() {
             return false;
         }
-        self.bins[i] = Bin {
-            min,
-            max,
-            inf: start,
-            val: start,
-            sup: start,
-        };
+        self.bins[i] = Bin::laid(min, max, start);
         self.bins_used = i + 1;
         true
     }
@@ -101,13 +95,7 @@ pub impl<'a, A: Amount> Shelf for FlatShelf<'a, A> as FlatShelfShelf {
             return false;
         }
         let old = self.bins[i];
-        self.bins[i] = Bin {
-            min: old.min,
-            max: old.max,
-            inf,
-            val,
-            sup,
-        };
+        self.bins[i] = old.with_figures(inf, val, sup);
         true
     }
 

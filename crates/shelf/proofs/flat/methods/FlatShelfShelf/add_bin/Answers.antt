@@ -1,3 +1,6 @@
+use mathlib.Core.Path.{ap, _∙_}
+use Rattle.shelf.specs.Contents.{afterAdd}
+use Rattle.shelf.specs.Flat.{flatContents}
 use Rattle.shelf.proofs.Changes.{add-yes, add-no, added, not-added}
 use Rattle.shelf.proofs.flat.methods.FlatShelfShelf.add_bin.Needs as need
 
@@ -8,5 +11,6 @@ returns-then-i-self g c =
 
 pub returns : need.returns
 returns g c =
+    let f = g .A·Amount .means in
     let s = c .args .self .now in
-    record { answer = add-yes (g .A·Amount .means) _ _ (s .grants .now) (s .«grants_used») (s .fits) (c .if-i-self .left); after = added (g .A·Amount .means) _ _ _ _ _ (s .fits) (c .if-i-self .left) }
+    record { answer = add-yes (g .A·Amount .means) _ _ (s .grants .now) (s .«grants_used») (s .fits) (c .if-i-self .left); after = added f _ _ _ _ (c .laid .result) (s .fits) (c .if-i-self .left) ∙ ap (afterAdd (flatContents f (s .bins .now) (s .«bins_used») (s .grants .now) (s .«grants_used»))) (c .laid .ensures) }

@@ -1,5 +1,5 @@
 use borrow.Author.Needs.{needs}
-use mathlib.Core.Path.{refl, sym, ap, _∙_}
+use mathlib.Core.Path.{sym, ap, _∙_}
 use native.Mathlib.Omega.{arith}
 use Prim.Native.Nat.{_<_}
 use lib.Dec.{ltb}
@@ -25,4 +25,4 @@ pub returns : need.returns
 unfolding canSet
 returns g c =
     let s = c .args .self .now in
-    record { answer = sym (ap (ltb (c .args .bin)) (flat-length (g .A·Amount .means) _ _ (s .fits)) ∙ lt-ltb _ _ (c .if-i-self .left)); after = set-done (g .A·Amount .means) _ _ _ _ _ _ _ _ (c .index-self-i .result) _ (c .if-i-self .left) (s .fits) refl }
+    record { answer = sym (ap (ltb (c .args .bin)) (flat-length (g .A·Amount .means) _ _ (s .fits)) ∙ lt-ltb _ _ (c .if-i-self .left)); after = set-done (g .A·Amount .means) _ _ _ _ _ _ _ _ (c .index-self-i .result) _ (c .if-i-self .left) (s .fits) (c .with-figures .ensures) }
