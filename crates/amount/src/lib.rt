@@ -1,4 +1,6 @@
 // Kinds of amount: what each value means, and exact arithmetic on what is meant.
+#![tactic(auto)]
+
 ghost use Rattle.std.specs.Prelude.{◌≡◌, ℕ, ◌*◌, ◌≤◌, true, ℤ, neg_ℤ, int_lt};
 ghost use Rattle.amount.specs.Range.{inside, sum, meant};
 

@@ -1,4 +1,5 @@
 // The bin ledger over standard input and output: all the work is in `house::run`.
+#![tactic(auto)]
 use anyhow::anyhow;
 use house::{MOST_BYTES, OutOfMemory, run};
 use std::io::Read;

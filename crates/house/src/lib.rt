@@ -1,4 +1,5 @@
 // The runner: it serves a house line by line, and a whole run is one function.
+#![tactic(auto)]
 
 mod answer;
 mod kind;

@@ -1,4 +1,5 @@
 // The ledger over any shelf and any kind of amount.
+#![tactic(auto)]
 
 mod calls;
 mod checks;

@@ -1,4 +1,6 @@
 // Why a call is refused: one table for every layer.
+#![tactic(auto)]
+
 ghost use Rattle.std.specs.Prelude.{◌≡◌, Some};
 ghost use Rattle.refusal.specs.Table.{number_of, refusal_text};
 

@@ -1,4 +1,5 @@
 // Examples, run against the crates as a user would call them.
+#![tactic(auto)]
 
 #[cfg(test)]
 mod amounts;

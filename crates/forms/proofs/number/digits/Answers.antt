@@ -9,12 +9,12 @@ loop-end-init c =
     let e : c.from-value.result ≡ get_or xs c.args.at 0 - 48 = c.from-value.ensures in
     (omega arith, omega arith, subst (λ v. drop c.args.at xs ≡ decimal v ++ drop (c.args.at + 1) xs) (sym e) (digits_one xs c.args.at (omega arith) (omega arith) (omega arith)), λ h. omega arith)
 
-pub returns-in-default : goal.returns-in-default
-returns-in-default c = record {
+pub returns-in_default : goal.returns-in_default
+returns-in_default c = record {
   within = c.loop-end.invariant.0;
   fits = c.loop-end.invariant.1;
   front = c.loop-end.invariant.2;
-  stops = λ g. c.in-default.ensures (subst (Goes _ _) (first-drop c.args.line.now c.loop-end.end (omega arith)) g);
+  stops = λ g. c.in_default.ensures (subst (Goes _ _) (first-drop c.args.line.now c.loop-end.end (omega arith)) g);
   leads = c.loop-end.invariant.3;
 }
 

@@ -4,8 +4,8 @@ use Rattle.forms.proofs.Numbers.{first-drop, first_end, both_ways}
 use Rattle.forms.proofs.number.number_at.Goals as goal
 use Rattle.forms.proofs.number.number_at.Goals.{else-minus-via-then-minus+then-at-line+else-line-at-eq45, else-minus-via-then-minus+else-at-line, else-minus-via-else-minus}
 
-pub unsigned-at-requires : goal.unsigned-at-requires
-unsigned-at-requires c = record {
+pub unsigned_at-requires : goal.unsigned_at-requires
+unsigned_at-requires c = record {
   within = c.requires.within;
   limited = c.requires.limited;
   plain = λ m e.
@@ -19,5 +19,5 @@ unsigned-at-requires c = record {
 
 pub returns-then-line-at-eq45 : goal.returns-then-line-at-eq45
 returns-then-line-at-eq45 c = subst
-    (λ m. MatchResult c.negative-at.result (λ p. Found c.args.limit m c.args.line.now c.args.at p.0 p.1) (λ e. Missing c.args.limit m c.args.line.now c.args.at e.place))
-    (sym c.if-minus.true) c.negative-at.ensures
+    (λ m. MatchResult c.negative_at.result (λ p. Found c.args.limit m c.args.line.now c.args.at p.0 p.1) (λ e. Missing c.args.limit m c.args.line.now c.args.at e.place))
+    (sym c.if-minus.true) c.negative_at.ensures

@@ -14,26 +14,26 @@ number_here c = here _ c.args.pattern.now _ c.loop-p.p-index c.loop-p.next c.loo
 pub amount-requires : goal.amount-requires
 amount-requires c = let h = number_here (goal.at.amount-requires c).In-Some in h.some
 
-pub width-of-n-requires : goal.width-of-n-requires
-width-of-n-requires c =
-    let h = number_here (goal.at.width-of-n-requires c).In-Some in
+pub width_of-n-requires : goal.width_of-n-requires
+width_of-n-requires c =
+    let h = number_here (goal.at.width_of-n-requires c).In-Some in
     let fits : SFits w64 c.amount.result = search rules in
     subst (λ z. nat_abs z ≤ largest_amount) (sym (to_z-of_z w64 _ fits ∙ c.amount.ensures)) h.fits
 
-pub overflow-add-n : goal.overflow-add-n
-overflow-add-n c =
-    let h = number_here (goal.at.overflow-add-n c).In-Some in
+pub overflow_add-n : goal.overflow_add-n
+overflow_add-n c =
+    let h = number_here (goal.at.overflow_add-n c).In-Some in
     let fits : SFits w64 c.amount.result = search rules in
     let e = ap (λ z. length (signed_decimal z)) (to_z-of_z w64 _ fits ∙ c.amount.ensures) in
-    omega (arith, c.width-of-n.ensures.0, e, h.next.within, line_short c.args.pattern.now _ c.requires.fits, c.requires.short)
+    omega (arith, c.width_of-n.ensures.0, e, h.next.within, line_short c.args.pattern.now _ c.requires.fits, c.requires.short)
 
-pub overflow-add-next : goal.overflow-add-next
-overflow-add-next c =
-    let h = number_here (goal.at.overflow-add-next c).In-Some in
+pub overflow_add-next : goal.overflow_add-next
+overflow_add-next c =
+    let h = number_here (goal.at.overflow_add-next c).In-Some in
     omega (arith, h.some, length-take c.args.fields.now.len c.args.fields.now.values, c.args.fields.now.within)
 
-pub overflow-add-n-in-None : goal.overflow-add-n-in-None
-overflow-add-n-in-None c =
+pub overflow_add-n-in-None : goal.overflow_add-n-in-None
+overflow_add-n-in-None c =
     let a = at_piece _ c.args.pattern.now c.loop-p.p-index _ _ _ (omega arith) c.in-None.ensures c.loop-p.invariant in
     omega (arith, (text_along _ _ _ _ _ a).within, line_short c.args.pattern.now _ c.requires.fits, c.requires.short)
 
@@ -46,7 +46,7 @@ loop-p-preserved c =
           let h = here _ c.args.pattern.now _ c.loop-p.p-index c.loop-p.next c.loop-p.n _ _ (omega arith) w.in-Some.ensures.0 w.in-Some.ensures.1.1 c.loop-p.invariant in
           let fits : SFits w64 w.amount.result = search rules in
           let e = ap (λ z. length (signed_decimal z)) (to_z-of_z w64 _ fits ∙ w.amount.ensures) in
-          let n : c.loop-p.n + length (signed_decimal (get_or vs c.loop-p.next (pos 0))) ≡ c.match-field.n = omega (arith, w.n-is, w.width-of-n.ensures.0, e) in
+          let n : c.loop-p.n + length (signed_decimal (get_or vs c.loop-p.next (pos 0))) ≡ c.match-field.n = omega (arith, w.n-is, w.width_of-n.ensures.0, e) in
           subst (λ j. Along (fill ps vs) (drop (c.loop-p.p-index + 1) ps) (drop j vs) c.match-field.n) (sym w.next-is) (subst (λ k. Along (fill ps vs) (drop (c.loop-p.p-index + 1) ps) (drop (c.loop-p.next + 1) vs) k) n h.next)
       | in-None w ↦
           let a = at_piece _ c.args.pattern.now c.loop-p.p-index _ _ _ (omega arith) w.in-None.ensures c.loop-p.invariant in

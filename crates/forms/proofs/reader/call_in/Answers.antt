@@ -16,4 +16,4 @@ returns c =
     f
 
 pub returns-in-Ok : goal.returns-in-Ok
-returns-in-Ok c = reads_found c.args.opened c.loop-form.form-index c.call-of.result _ _ _ _ c.forms-form-items.ensures (omega arith) c.call-of.ensures c.pattern.ensures c.in-Ok.ensures
+returns-in-Ok c = reads_found c.args.opened c.loop-form.form-index c.call_of.result _ _ _ _ c.forms-form-items.ensures (omega arith) c.call_of.ensures c.pattern.ensures c.in-Ok.ensures

@@ -10,13 +10,13 @@ use Rattle.forms.proofs.reader.read.Goals as goal
 
 pub split-requires : goal.split-requires
 split-requires c =
-    let r = c.in-ok-call.ensures in
-    let call = c.in-ok-call.call in
+    let r = c.in_ok-call.ensures in
+    let call = c.in_ok-call.call in
     subst (λ s. length (spans s) ≤ most_words) (sym r.1) (few_words (form_of call) (values_of call) r.0.fits)
 
 pub returns : goal.returns
 returns c = record {
-  value = same_call c.args.opened c.args.line.now c.in-ok-call.call c.in-ok-call.ensures;
+  value = same_call c.args.opened c.args.line.now c.in_ok-call.call c.in_ok-call.ensures;
   words = c.split.ensures;
   runs = all_runs c.args.line.now;
   line = one_line c.args.opened;
@@ -24,10 +24,10 @@ returns c = record {
   place = fault_place c.args.opened;
 }
 
-pub returns-in-err-call : goal.returns-in-err-call
-returns-in-err-call c =
-    let p = err_from_is_err_and c.from-residual.result c.from-residual.ensures.1 in
-    let f = same_fault c.args.opened c.args.line.now _ c.in-err-call.ensures in
+pub returns-in_err-call : goal.returns-in_err-call
+returns-in_err-call c =
+    let p = err_from_is_err_and c.from_residual.result c.from_residual.ensures.1 in
+    let f = same_fault c.args.opened c.args.line.now _ c.in_err-call.ensures in
     record {
       value = rw (p.1, p.2) f;
       words = rw p.1 tt;

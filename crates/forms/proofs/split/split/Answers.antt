@@ -3,26 +3,26 @@ use lib.ListN.{length-map}
 use Rattle.forms.specs.Words.{cut, spans, texts}
 use Rattle.forms.proofs.Splits.{Split, word_goes, word_ends, room, room_last, all_split}
 use Rattle.forms.proofs.split.split.Goals as goal
-use Rattle.forms.proofs.split.split.Goals.{then-is-parting, else-is-parting}
+use Rattle.forms.proofs.split.split.Goals.{then-is_parting, else-is_parting}
 
 pub close-requires : goal.close-requires
 close-requires c = record {
   within = (c.loop-at.invariant.within, omega arith);
-  room = room c.args.line.now _ _ _ c.loop-at.invariant c.loop-at-test.true (sym c.is-parting.ensures ∙ c.if-is-parting.true) c.requires;
+  room = room c.args.line.now _ _ _ c.loop-at.invariant c.loop-at-test.true (sym c.is_parting.ensures ∙ c.if-is_parting.true) c.requires;
 }
 
 pub loop-at-preserved : goal.loop-at-preserved
 loop-at-preserved c =
     let line = c.args.line.now in
     let on = c.loop-at.at + 1 in
-    elim c.if-is-parting.branch [
-      | then-is-parting w ↦
-          let p = sym c.is-parting.ensures ∙ w.if-is-parting.true in
+    elim c.if-is_parting.branch [
+      | then-is_parting w ↦
+          let p = sym c.is_parting.ensures ∙ w.if-is_parting.true in
           let e = ap texts w.words-is ∙ w.close.ensures.each in
-          subst (λ from. Split line (texts c.if-is-parting.words) from on) (sym w.from-is) (word_ends line _ _ _ c.loop-at.invariant _ c.loop-at-test.true p e)
-      | else-is-parting w ↦
-          let p = sym c.is-parting.ensures ∙ w.if-is-parting.false in
-          subst (λ ws. Split line (texts ws) c.if-is-parting.from on) (sym w.words-is)
+          subst (λ from. Split line (texts c.if-is_parting.words) from on) (sym w.from-is) (word_ends line _ _ _ c.loop-at.invariant _ c.loop-at-test.true p e)
+      | else-is_parting w ↦
+          let p = sym c.is_parting.ensures ∙ w.if-is_parting.false in
+          subst (λ ws. Split line (texts ws) c.if-is_parting.from on) (sym w.words-is)
           (subst (λ from. Split line (texts c.loop-at.words) from on) (sym w.from-is) (word_goes line _ _ _ c.loop-at.invariant c.loop-at-test.true p))
     ]
 

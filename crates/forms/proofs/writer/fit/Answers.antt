@@ -5,7 +5,7 @@ use Rattle.forms.specs.Patterns.{pieces, Suits}
 use Rattle.forms.proofs.Numbers.{both_ways}
 use Rattle.forms.proofs.Fitting.{Rest, text_rest, number_rest, number_none, number_long, end_all, end_left}
 use Rattle.forms.proofs.writer.fit.Goals as goal
-use Rattle.forms.proofs.writer.fit.Goals.{in-Some+else-next-fields+else-not-suits, in-default}
+use Rattle.forms.proofs.writer.fit.Goals.{in-Some+else-next-fields+else-not-suits, in_default}
 
 pub returns-then-next-fields : goal.returns-then-next-fields
 returns-then-next-fields c =
@@ -38,7 +38,7 @@ loop-p-preserved c =
           let v = to_z-of_z w64 _ fits ∙ w.amount.ensures in
           let h = subst (Suits w.in-Some.limit w.in-Some.minus) v (w.suits.ensures.yes w.if-not-suits.false) in
           subst P (sym w.next-is) (number_rest c.args.pattern.now _ c.loop-p.p-index c.loop-p.next c.loop-p.invariant.0 _ _ (omega arith) w.in-Some.ensures.0 (omega (arith, n, w.if-next-fields.false)) h, omega (arith, w.if-next-fields.false))
-      | in-default w ↦ subst P (sym w.next-is) (text_rest c.args.pattern.now _ c.loop-p.p-index c.loop-p.next c.loop-p.invariant.0 _ (omega arith) w.in-default.ensures, c.loop-p.invariant.1)
+      | in_default w ↦ subst P (sym w.next-is) (text_rest c.args.pattern.now _ c.loop-p.p-index c.loop-p.next c.loop-p.invariant.0 _ (omega arith) w.in_default.ensures, c.loop-p.invariant.1)
     ]
 
 pub returns : goal.returns

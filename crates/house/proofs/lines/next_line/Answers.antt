@@ -4,11 +4,11 @@ use Rattle.house.specs.Lines.{lines_of}
 use Rattle.house.proofs.LineEnds.{first_line, only_line, none_of}
 use Rattle.house.proofs.lines.next_line.Goals as goal
 
-pub returns-then-is-empty : goal.returns-then-is-empty
-returns-then-is-empty c = none_of c.args.text.now (eqb-true (length c.args.text.now) 0 (sym c.if-is-empty.ensures))
+pub returns-then-is_empty : goal.returns-then-is_empty
+returns-then-is_empty c = none_of c.args.text.now (eqb-true (length c.args.text.now) 0 (sym c.if-is_empty.ensures))
 
 pub returns-then-text-end-eq-LINE-END : goal.returns-then-text-end-eq-LINE-END
 returns-then-text-end-eq-LINE-END c = first_line c.args.text.now c.loop-end.end c.loop-end-test.true c.loop-end.invariant c.if-text-end-eq-LINE-END.true
 
 pub returns : goal.returns
-returns c = only_line c.args.text.now c.loop-end.end (sym c.if-is-empty.ensures) c.loop-end-test.false c.loop-end.invariant
+returns c = only_line c.args.text.now c.loop-end.end (sym c.if-is_empty.ensures) c.loop-end-test.false c.loop-end.invariant

@@ -6,7 +6,7 @@ use Rattle.house.proofs.program.work.Goals as goal
 
 pub returns : goal.returns
 returns g c =
-    IfOk-weaker c.serve-lines.result _ _
+    IfOk-weaker c.serve_lines.result _ _
     (λ x h. h [] c.open-ledger.ensures.reached
     ∙ ap (λ s. string_bytes c.args.out.now ++ served g.K.Written.kind s (lines_of c.args.text.now)) c.open-ledger.ensures.opened)
-    c.serve-lines.ensures
+    c.serve_lines.ensures

@@ -9,28 +9,28 @@ use Rattle.house.specs.Serving.{bin_in}
 use Rattle.house.proofs.Serves.{fault_served, unmade_served, call_served}
 use Rattle.house.proofs.serving.serve_line.Goals as goal
 
-pub returns-in-err-reading : goal.returns-in-err-reading
-returns-in-err-reading g c =
+pub returns-in_err-reading : goal.returns-in_err-reading
+returns-in_err-reading g c =
     let p = err_from_is_err_and c.from-residual.result c.from-residual.ensures.1 in
     rw (p.1, p.2)
     (fault_served g.K.Written.kind (state g.K.Amount.limit g.S.Shelf.contents c.args.ledger.now) c.args.line.now _
-    (ap (λ (k : Kind). read_of (Some k) c.args.line.now) (sym c.kind.ensures) ∙ c.in-err-reading.ensures.value))
+    (ap (λ (k : Kind). read_of (Some k) c.args.line.now) (sym c.kind.ensures) ∙ c.in_err-reading.ensures.value))
 
-pub returns-in-err-request : goal.returns-in-err-request
-returns-in-err-request g c =
-    let p = err_from_is_err_and c.from-residual-in-err-request.result c.from-residual-in-err-request.ensures.1 in
+pub returns-in_err-request : goal.returns-in_err-request
+returns-in_err-request g c =
+    let p = err_from_is_err_and c.from-residual-in_err-request.result c.from-residual-in_err-request.ensures.1 in
     rw (p.1, p.2)
-    (unmade_served g.K.Written.kind (state g.K.Amount.limit g.S.Shelf.contents c.args.ledger.now) c.args.line.now c.in-ok-reading.reading.call _
-    (ap (λ (k : Kind). read_of (Some k) c.args.line.now) (sym c.kind.ensures) ∙ c.in-ok-reading.ensures.value)
-    c.in-err-request.ensures)
+    (unmade_served g.K.Written.kind (state g.K.Amount.limit g.S.Shelf.contents c.args.ledger.now) c.args.line.now c.in_ok-reading.reading.call _
+    (ap (λ (k : Kind). read_of (Some k) c.args.line.now) (sym c.kind.ensures) ∙ c.in_ok-reading.ensures.value)
+    c.in_err-request.ensures)
 
 pub returns : goal.returns
 returns g c =
     let means = g.K.Amount.means in
-    let m = call_of means c.in-ok-request.request in
-    call_served g.K.Written.kind (state g.K.Amount.limit g.S.Shelf.contents c.args.ledger.now) c.args.line.now c.in-ok-reading.reading.call
-    m (said_of means c.serve-said.result) (state g.K.Amount.limit g.S.Shelf.contents c.serve-said.new.self) (answer_text c.answer-to.result)
-    (ap (λ (k : Kind). read_of (Some k) c.args.line.now) (sym c.kind.ensures) ∙ c.in-ok-reading.ensures.value)
-    c.in-ok-request.ensures
+    let m = call_of means c.in_ok-request.request in
+    call_served g.K.Written.kind (state g.K.Amount.limit g.S.Shelf.contents c.args.ledger.now) c.args.line.now c.in_ok-reading.reading.call
+    m (said_of means c.serve-said.result) (state g.K.Amount.limit g.S.Shelf.contents c.serve-said.new.self) (answer_text c.answer_to.result)
+    (ap (λ (k : Kind). read_of (Some k) c.args.line.now) (sym c.kind.ensures) ∙ c.in_ok-reading.ensures.value)
+    c.in_ok-request.ensures
     (λ cs r. ((c.serve-said.ensures.model cs r).0, (cs ++ m ∷ [], (c.serve-said.ensures.model cs r).1)))
-    (c.answer-to.ensures ∙ ap (λ b. said_text g.K.Written.kind b (said_of means c.serve-said.result)) c.bin-in.ensures)
+    (c.answer_to.ensures ∙ ap (λ b. said_text g.K.Written.kind b (said_of means c.serve-said.result)) c.bin_in.ensures)

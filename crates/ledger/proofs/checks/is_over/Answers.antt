@@ -3,4 +3,4 @@ use Rattle.ledger.proofs.Tests.{over_is}
 use Rattle.ledger.proofs.checks.is_over.Goals as goal
 
 pub returns : goal.returns
-returns g c = ap not c.within-limit.ensures ∙ over_is _ _
+returns g c = ap not c.within_limit.ensures ∙ over_is _ _

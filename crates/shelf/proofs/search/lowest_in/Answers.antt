@@ -7,7 +7,7 @@ pub loop-i-preserved : goal.loop-i-preserved
 loop-i-preserved g c =
     let xs = c.args.records.now in
     let k = c.args.batch in
-    let new = c.lower-best.ensures ∙ ap (lesser c.loop-i.best) c.bin-of.ensures in
+    let new = c.lower-best.ensures ∙ ap (lesser c.loop-i.best) c.bin_of.ensures in
     passed_more k xs c.loop-i.i c.loop-i.best _ c.loop-i.invariant c.loop-i-test.true c.index-records-i.is ∙ ap (λ o. lesser o (lowest_of k (drop (c.loop-i.i + 1) xs))) (sym new)
 
 pub returns : goal.returns

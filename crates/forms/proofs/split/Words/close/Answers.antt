@@ -4,14 +4,14 @@ use Rattle.forms.specs.Words.{most_words, cuts, texts}
 use Rattle.forms.proofs.Splits.{below, held-length, held_more, closed_some}
 use Rattle.forms.proofs.split.Words.close.Goals as goal
 
-pub offset-bounds-self-at : goal.offset-bounds-self-at
-offset-bounds-self-at c = let l = below (λ p. p.now) c.args.self.now.parts _ _ _ (search rules) c.if-from-to.true c.requires.room in omega arith
+pub offset_bounds-self-at : goal.offset_bounds-self-at
+offset_bounds-self-at c = let l = below (λ p. p.now) c.args.self.now.parts _ _ _ (search rules) c.if-from-to.true c.requires.room in omega arith
 
 pub bounds-self-at : goal.bounds-self-at
 bounds-self-at c = below (λ p. p.now) c.args.self.now.parts _ _ _ (search rules) c.if-from-to.true c.requires.room
 
-pub overflow-add-self : goal.overflow-add-self
-overflow-add-self c = let l = below (λ p. p.now) c.args.self.now.parts _ _ _ (search rules) c.if-from-to.true c.requires.room in omega arith
+pub overflow_add-self : goal.overflow_add-self
+overflow_add-self c = let l = below (λ p. p.now) c.args.self.now.parts _ _ _ (search rules) c.if-from-to.true c.requires.room in omega arith
 
 pub returns-then-from-to : goal.returns-then-from-to
 returns-then-from-to c =

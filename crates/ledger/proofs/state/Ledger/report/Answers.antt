@@ -12,5 +12,5 @@ pub returns : goal.returns
 returns g c =
     let means = g.Kind.Amount.means in
     report_owed (state g.Kind.Amount.limit g.S.Shelf.contents c.args.self.now) c.args.bin
-    (figures_in means c.bin.result) (shown_by means c.ok-or.result) c.if-not-self.false c.bin.ensures
-    (ap (shown_by means) c.ok-or.ensures.value ∙ shown_by_lem means c.bin.result)
+    (figures_in means c.bin.result) (shown_by means c.ok_or.result) c.if-not-self.false c.bin.ensures
+    (ap (shown_by means) c.ok_or.ensures.value ∙ shown_by_lem means c.bin.result)

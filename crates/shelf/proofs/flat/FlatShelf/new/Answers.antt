@@ -7,10 +7,15 @@ use Rattle.shelf.proofs.InPlace.{placed_none}
 use Rattle.shelf.proofs.Laws.{used_none, apart_none, granted_none}
 use Rattle.shelf.proofs.flat.FlatShelf.new.Goals as goal
 
-pub invariant-of-result : goal.invariant-of-result
-invariant-of-result g c =
+pub invariant_of-result : goal.invariant_of-result
+invariant_of-result g c =
     let n = length c.args.grants.now in
-    (zero-le, (ap used c.clear.ensures ∙ used_none g.row.A.Denot n, (ap apart c.clear.ensures ∙ apart_none g.row.A.Denot n, (ap (placed_in (length c.args.bins.now)) c.clear.ensures ∙ placed_none g.row.A.Denot _ n, tt))))
+    record {
+      fits = zero-le;
+      counted = ap used c.clear.ensures ∙ used_none g.row.A.Denot n;
+      distinct = ap apart c.clear.ensures ∙ apart_none g.row.A.Denot n;
+      placed = ap (placed_in (length c.args.bins.now)) c.clear.ensures ∙ placed_none g.row.A.Denot _ n;
+    }
 
 pub returns : goal.returns
 returns g c =

@@ -8,7 +8,7 @@ pub returns-then-i-self : goal.returns-then-i-self
 unfolding bin_of
 returns-then-i-self g c =
     let f = g.A.Amount.means in
-    ap (λ b. Some (figures f b)) c.bin-at.ensures ∙ read_bin f _ _ _ _ c.if-i-self.true c.args.self.now.fits
+    ap (λ b. Some (figures f b)) c.bin_at.ensures ∙ read_bin f _ _ _ _ c.if-i-self.true c.args.self.now.fits
 
 pub returns-else-i-self : goal.returns-else-i-self
 unfolding bin_of

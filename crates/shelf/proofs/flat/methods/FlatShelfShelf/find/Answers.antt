@@ -3,4 +3,4 @@ use Rattle.shelf.proofs.flat.methods.FlatShelfShelf.find.Goals as goal
 
 pub returns : goal.returns
 unfolding amount_at
-returns g c = c.find-in.ensures
+returns g c = c.find_in.ensures

@@ -8,4 +8,4 @@ pub returns : goal.returns
 returns g c =
     let f = g.A.Amount.means in
     let xs = c.args.self.now.grants.now in
-    subst (Tells (granted f xs) c.args.batch) (sym c.lowest-in.ensures) (low_is f c.args.batch xs)
+    subst (Tells (granted f xs) c.args.batch) (sym c.lowest_in.ensures) (low_is f c.args.batch xs)

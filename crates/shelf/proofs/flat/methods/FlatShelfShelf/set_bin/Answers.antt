@@ -10,14 +10,14 @@ returns-then-i-self g c =
     let s = c.args.self.now in
     record { answer = sym (ap (ltb c.args.bin) (flat_length g.A.Amount.means _ _ s.fits) ∙ le-ltb _ _ c.if-i-self.true); after = set_none g.A.Amount.means _ _ _ _ _ _ _ _ c.if-i-self.true }
 
-pub offset-bounds-self-i : goal.offset-bounds-self-i
-offset-bounds-self-i g c = let l = c.args.self.now.fits in let h : c.args.bin < length c.args.self.now.bins.now = omega arith in search rules
+pub offset_bounds-self-i : goal.offset_bounds-self-i
+offset_bounds-self-i g c = let l = c.args.self.now.fits in let h : c.args.bin < length c.args.self.now.bins.now = omega arith in search rules
 
-pub offset-bounds-self-i-2 : goal.offset-bounds-self-i-2
-offset-bounds-self-i-2 g c = let l = c.args.self.now.fits in let h : c.args.bin < length c.args.self.now.bins.now = omega arith in search rules
+pub offset_bounds-self-i-2 : goal.offset_bounds-self-i-2
+offset_bounds-self-i-2 g c = let l = c.args.self.now.fits in let h : c.args.bin < length c.args.self.now.bins.now = omega arith in search rules
 
 pub returns : goal.returns
 unfolding can_set
 returns g c =
     let s = c.args.self.now in
-    record { answer = sym (ap (ltb c.args.bin) (flat_length g.A.Amount.means _ _ s.fits) ∙ lt-ltb _ _ c.if-i-self.false); after = set_done g.A.Amount.means _ _ _ _ _ _ _ _ c.index-self-i.result _ c.if-i-self.false s.fits c.with-figures.ensures }
+    record { answer = sym (ap (ltb c.args.bin) (flat_length g.A.Amount.means _ _ s.fits) ∙ lt-ltb _ _ c.if-i-self.false); after = set_done g.A.Amount.means _ _ _ _ _ _ _ _ c.index-self-i.result _ c.if-i-self.false s.fits c.with_figures.ensures }
