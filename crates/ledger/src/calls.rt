@@ -15,8 +15,8 @@ use shelf::records::Bin;
 impl<S: Shelf> Ledger<S> {
     // Opens a ledger in a house; on an unfit shelf it refuses every call.
     pub fn open(house: u32, shelf: S) -> Ledger<S>
-        ensures opened { state Kind-as-Amount.limit S.Shelf.contents result ≡ opens house Kind-as-Amount.limit (S.Shelf.contents shelf) }
-        ensures reached { Reached (state Kind-as-Amount.limit S.Shelf.contents result) [] }
+        ensures opened { state S.Kind.Amount.limit S.Shelf.contents result ≡ opens house S.Kind.Amount.limit (S.Shelf.contents shelf) }
+        ensures reached { Reached (state S.Kind.Amount.limit S.Shelf.contents result) [] }
     {
         let fit = checks::is_fit(&shelf);
         Ledger {

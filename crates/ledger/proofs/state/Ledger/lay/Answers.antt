@@ -4,6 +4,6 @@ use Rattle.ledger.proofs.state.Ledger.lay.Goals as goal
 
 pub returns : goal.returns
 returns g c =
-    let means = g.Kind.Amount.means in
-    lay_owed (state g.Kind.Amount.limit g.S.Shelf.contents c.args.self.now) (means c.args.min) (means c.args.max) (means c.args.start)
-    (state g.Kind.Amount.limit g.S.Shelf.contents c.work_lay.new.self) c.work_lay.result c.work_lay.ensures
+    let means = g.S.Kind.Amount.means in
+    lay_owed (state g.S.Kind.Amount.limit g.S.Shelf.contents c.args.self.now) (means c.args.min) (means c.args.max) (means c.args.start)
+    (state g.S.Kind.Amount.limit g.S.Shelf.contents c.work_lay.new.self) c.work_lay.result c.work_lay.ensures
