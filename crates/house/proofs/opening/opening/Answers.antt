@@ -5,7 +5,7 @@ use Rattle.house.proofs.opening.opening.Goals as goal
 
 pub returns-in_err-reading : goal.returns-in_err-reading
 returns-in_err-reading c =
-    let p = err_from_is_err_and c.from-residual.result c.from-residual.ensures.1 in
+    let p = err_from_is_err_and c.from_residual.result c.from_residual.ensures.1 in
     rw (p.1, p.2) (fault_opens c.args.line.now _ c.in_err-reading.ensures.value)
 
 pub returns-in_default : goal.returns-in_default

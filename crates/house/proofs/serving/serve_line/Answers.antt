@@ -11,14 +11,14 @@ use Rattle.house.proofs.serving.serve_line.Goals as goal
 
 pub returns-in_err-reading : goal.returns-in_err-reading
 returns-in_err-reading g c =
-    let p = err_from_is_err_and c.from-residual.result c.from-residual.ensures.1 in
+    let p = err_from_is_err_and c.from_residual.result c.from_residual.ensures.1 in
     rw (p.1, p.2)
     (fault_served g.K.Written.kind (state g.K.Amount.limit g.S.Shelf.contents c.args.ledger.now) c.args.line.now _
     (ap (λ (k : Kind). read_of (Some k) c.args.line.now) (sym c.kind.ensures) ∙ c.in_err-reading.ensures.value))
 
 pub returns-in_err-request : goal.returns-in_err-request
 returns-in_err-request g c =
-    let p = err_from_is_err_and c.from-residual-in_err-request.result c.from-residual-in_err-request.ensures.1 in
+    let p = err_from_is_err_and c.from_residual-in_err-request.result c.from_residual-in_err-request.ensures.1 in
     rw (p.1, p.2)
     (unmade_served g.K.Written.kind (state g.K.Amount.limit g.S.Shelf.contents c.args.ledger.now) c.args.line.now c.in_ok-reading.reading.call _
     (ap (λ (k : Kind). read_of (Some k) c.args.line.now) (sym c.kind.ensures) ∙ c.in_ok-reading.ensures.value)
