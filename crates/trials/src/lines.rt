@@ -54,8 +54,8 @@ fn words_are_parts_of_the_line(rt: HostRuntime) -> Result<(), Fail> {
         return Err(Fail::new("unreadable"));
     };
     assert!(rt; reading.words.len() == 8);
-    assert!(rt; reading.words.get(1).ok_or("no word")? == b"7");
-    assert!(rt; reading.words.get(5).ok_or("no word")? == b"flat");
+    assert!(rt; reading.words.get(1).ok_or("no word")? == b"7".as_slice());
+    assert!(rt; reading.words.get(5).ok_or("no word")? == b"flat".as_slice());
     assert!(rt; reading.words.get(8).is_none());
     Ok(())
 }
