@@ -1,4 +1,4 @@
-use Rattle.std.proofs.Common.{◌≡◌, ℕ, ◌*◌, Bool, true, false, cond, ℤ, pos, ◌+ℤ◌, Some, None, sym, refl, ap, ◌∙◌, arith}
+use Rattle.std.proofs.Common.{◌≡◌, ℕ, ◌*◌, Bool, true, false, cond, ℤ, ◌+ℤ◌, Some, None, sym, refl, ap, ◌∙◌, arith}
 use Rattle.amount.specs.Range.{inside, sum}
 
 cond_yes : {X : Type 0} (t : Bool) (x y : X) → t ≡ true → x ≡ cond t x y

@@ -1,5 +1,6 @@
 // The bin ledger over standard input and output: all the work is in `house::run`.
 #![tactic(auto)]
+
 use anyhow::anyhow;
 use house::{MOST_BYTES, OutOfMemory, run};
 use std::io::Read;

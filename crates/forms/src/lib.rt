@@ -1,5 +1,6 @@
 // The lines that a house takes: which calls they write, where an unreadable one fails, and how a call is written.
 #![tactic(auto)]
+
 ghost use Rattle.std.specs.Prelude.{◌≡◌, max};
 
 pub mod calls;

@@ -1,6 +1,5 @@
 -- Which house a line opens.
-use Rattle.std.proofs.Common.{◌≡◌, ℕ, Bool, true, false, cond, ◌&&◌, List, None, Ok, Err, Result, sym, refl, ap, ◌∙◌, arith}
-use Rattle.refusal.specs.declared.Refusal.{Refusal}
+use Rattle.std.proofs.Common.{◌≡◌, ℕ, Bool, cond, ◌&&◌, List, None, Ok, Err, sym, refl, ap, ◌∙◌}
 use Rattle.refusal.specs.declared.Refusal.TheVariants.{Unreadable, UnfitShelf}
 use Rattle.model.specs.Ledger.{fit_capacities}
 use Rattle.forms.specs.declared.calls.HouseForm.{HouseForm}

@@ -1,5 +1,5 @@
 -- How amounts of each kind are made from outside numbers and written in them.
-use Rattle.std.specs.Prelude.{ℕ, ℤ, Ok, Err, Result}
+use Rattle.std.specs.Prelude.{ℕ, ℤ, Err, Result}
 use Rattle.refusal.specs.declared.Refusal.{Refusal}
 use Rattle.refusal.specs.declared.Refusal.TheVariants.{Unreadable}
 use Rattle.amount.specs.Grams.{gram_limit, grams_made}

@@ -1,15 +1,13 @@
 -- Laying and reporting are what the reference ledger does.
-use Rattle.std.proofs.Common.{◌≡◌, ℕ, zero, suc, Bool, true, false, cond, not, ◌&&◌, ◌||◌, ltb, leb, List, [], ◌∷◌, ◌++◌, length, ℤ, Some, None, Ok, Err, Option, Result, sym, refl, ap, ◌∙◌, subst, arith}
-use lib.Signed.{lt_z}
+use Rattle.std.proofs.Common.{◌≡◌, ℕ, zero, suc, Bool, true, false, cond, not, ◌||◌, ltb, leb, List, [], ◌∷◌, ◌++◌, length, ℤ, Some, None, Ok, Err, Option, Result, sym, refl, ap, ◌∙◌, subst, arith}
 use Rattle.std.specs.Option.{ok_or}
-use Rattle.std.proofs.lemmas.Bool.{and_parts}
 use Rattle.refusal.specs.declared.Refusal.{Refusal}
 use Rattle.refusal.specs.declared.Refusal.TheVariants.{UnfitShelf, BadFigures, OverLimit, Trading, BinsFull, NoSuchBin}
 use Rattle.shelf.specs.declared.records.Bin.{Bin}
 use Rattle.shelf.specs.Bins.{figures_in}
-use Rattle.shelf.specs.Contents.{Figures, Contents, Sound, nth, bin_of, fresh, with_bins, can_add, after_add}
-use Rattle.model.specs.Ledger.{State, Call, Answer, lay, report, refused, laid, shown, over, bin_at, fit_capacities, fit_shelf, least_bins, most_bins, opens, with_shelf, act, serve, first, step}
-use Rattle.model.specs.Runs.{after, Reached}
+use Rattle.shelf.specs.Contents.{Figures, nth, bin_of, fresh, with_bins, can_add, after_add}
+use Rattle.model.specs.Ledger.{State, Call, Answer, lay, report, refused, shown, bin_at, fit_capacities, fit_shelf, most_bins, opens, with_shelf, act, serve, first, step}
+use Rattle.model.specs.Runs.{Reached}
 use Rattle.ledger.specs.Answers.{laid_by, shown_by}
 use Rattle.ledger.specs.Owed.{Owed}
 use Rattle.ledger.specs.Working.{bad_figures, over_limit, bins_full, lay_fit, lay_of}

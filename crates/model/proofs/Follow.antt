@@ -6,7 +6,7 @@ use Rattle.model.specs.Journal.{Journal, blank, feed, fed}
 use Rattle.model.specs.Runs as runs
 use Rattle.model.specs.Runs.{journal_at, Reached}
 use Rattle.model.specs.Promises.{Always}
-use Rattle.model.proofs.Listed.{House, Listed, as_map, opened_at, step, after, told}
+use Rattle.model.proofs.Listed.{House, Listed, as_map, opened_at, step}
 use Rattle.model.proofs.Link.{Link}
 use Rattle.model.proofs.Step.{link_step, link_start}
 use Rattle.model.proofs.Verdicts.{house_step}

@@ -1,5 +1,6 @@
 // The reference ledger and what it promises: each function states a promise, and its contract is proved.
 #![tactic(auto)]
+
 ghost use Rattle.model.specs.Promises.{VerdictsExact, FiguresExact, SchedulesAlike, NoIdleWait, SumsInRange, OthersAreRivals, UnfitRefuses};
 ghost use Rattle.model.specs.Examples.{Worked, TwoSchedules};
 

@@ -1,11 +1,11 @@
 -- What each call makes of the meaning of a flat shelf.
-use Rattle.std.proofs.Common.{◌≡◌, ℕ, zero, suc, ◌+◌, ◌-◌, ◌<◌, ◌≤◌, Bool, true, false, cond, not, ◌&&◌, eqb, ltb, List, [], ◌∷◌, ◌++◌, map, length, get_or, take, set, ℤ, is_some, Some, None, Option, sym, refl, ap, ◌∙◌, ap₂, arith}
+use Rattle.std.proofs.Common.{◌≡◌, ℕ, zero, suc, ◌+◌, ◌-◌, ◌<◌, ◌≤◌, true, false, not, ltb, List, [], ◌∷◌, map, length, get_or, take, set, ℤ, is_some, Some, None, Option, sym, refl, ap, ◌∙◌, ap₂, arith}
 use mathlib.Core.Path.{fun_ext}
 use Rattle.std.proofs.lemmas.List.{length-map, length-take-le, length-set, take_more_set, map_push}
-use Rattle.std.proofs.lemmas.Bool.{cond-true, cond-false, and_from, and_left, and_right, lt-ltb, le-ltb, not_from_false, not_from_true}
+use Rattle.std.proofs.lemmas.Bool.{cond-true, cond-false, and_from, and_left, and_right, lt-ltb, le-ltb, not_from_true}
 use Rattle.shelf.specs.declared.records.Grant.{Grant}
 use Rattle.shelf.specs.declared.records.Bin.{Bin}
-use Rattle.shelf.specs.Contents.{Contents, nth, bin_of, can_set, with_bins, can_add, after_add, change_at, after_set, with_grants, regrant, can_put, after_put, after_take}
+use Rattle.shelf.specs.Contents.{Contents, nth, with_bins, can_add, after_add, change_at, after_set, can_put, after_put, after_take}
 use Rattle.shelf.specs.Contents.{Figures}
 use Rattle.shelf.specs.Bins.{figures}
 use Rattle.shelf.specs.Flat.{granted, flat_contents, hit, free, apart}

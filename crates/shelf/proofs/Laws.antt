@@ -1,12 +1,12 @@
 -- Laws of the records of a flat shelf: searches, and what a written place changes.
-use Rattle.std.proofs.Common.{◌≡◌, ℕ, zero, suc, ◌+◌, ◌-◌, ◌<◌, ◌≤◌, Bool, true, false, cond, not, ◌&&◌, eqb, ltb, List, [], ◌∷◌, length, get_or, drop, set, replicate, ℤ, pos, is_some, Some, None, Decides, Option, sym, refl, ap, ◌∙◌, subst, arith}
-use Rattle.std.proofs.lemmas.Bool.{cond-true, cond-false, and_parts, and_from, eqb-true, eq-eqb, not-true, not_from_false, both_ways}
+use Rattle.std.proofs.Common.{◌≡◌, ℕ, zero, suc, ◌+◌, ◌<◌, ◌≤◌, Bool, true, false, cond, not, ◌&&◌, eqb, List, [], ◌∷◌, length, get_or, drop, set, replicate, ℤ, pos, is_some, Some, None, Option, sym, refl, ap, ◌∙◌, subst, arith}
+use Rattle.std.proofs.lemmas.Bool.{cond-true, cond-false, and_parts, and_from, eqb-true, eq-eqb, not-true, both_ways}
 use Rattle.shelf.specs.Contents.{regrant}
 use Rattle.shelf.specs.Soundness.{used_room}
 use Rattle.shelf.specs.OtherBatch.{by_test, some_hit}
 use Rattle.std.proofs.lemmas.List.{at_drop_more, at_drop_all, length-set}
 use Rattle.shelf.specs.declared.records.Grant.{Grant}
-use Rattle.shelf.specs.Flat.{hit, other, first_from, free, granted, pick, amount_in, used, one, apart, missing}
+use Rattle.shelf.specs.Flat.{hit, first_from, free, granted, pick, used, apart, missing}
 
 module _ {X : Type 0} (p : X → Bool) (xs : List X) (i : ℕ) where
   -- the search has come to place i

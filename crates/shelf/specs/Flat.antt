@@ -5,7 +5,7 @@
 --   lowest_of               the lowest bin of a batch
 --   used, apart, placed_in  how many places are used; no two grants alike; every grant in a bin below the capacity
 --   flat_contents           the contents that bins and places mean
-use Rattle.std.specs.Prelude.{◌≡◌, ℕ, zero, suc, ◌+◌, min, Bool, true, false, cond, not, ◌&&◌, List, [], ◌∷◌, map, length, take, ℤ, pos, is_some, Some, None, Option, ◌==◌, nat_lt}
+use Rattle.std.specs.Prelude.{ℕ, ◌+◌, min, Bool, true, false, cond, not, ◌&&◌, List, [], ◌∷◌, map, length, take, ℤ, pos, is_some, Some, None, Option, ◌==◌, nat_lt}
 use Rattle.shelf.specs.declared.records.Grant.{Grant}
 use Rattle.shelf.specs.declared.records.Bin.{Bin}
 use Rattle.shelf.specs.Bins.{figures}

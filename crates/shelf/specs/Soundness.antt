@@ -1,12 +1,12 @@
 -- Every flat shelf is sound: it keeps within its capacities, and grants only where it counts grants and has bins.
-use Rattle.std.specs.Prelude.{◌≡◌, ℕ, ◌<◌, ◌≤◌, Bool, true, false, cond, ◌&&◌, List, [], ◌∷◌, map, length, take, ℤ, is_some, Some, None, Option, ◌==◌, nat_lt, refl}
-use Rattle.std.proofs.Common.{sym, subst, ◌∙◌, arith}
+use Rattle.std.specs.Prelude.{◌≡◌, ℕ, ◌<◌, ◌≤◌, Bool, true, false, cond, ◌&&◌, List, [], ◌∷◌, length, take, ℤ, is_some, Some, None, Option, ◌==◌, nat_lt, refl}
+use Rattle.std.proofs.Common.{subst, ◌∙◌, arith}
 use Rattle.std.proofs.lemmas.List.{length-map, length-take-le}
 use Rattle.shelf.specs.declared.records.Grant.{Grant}
 use Rattle.shelf.specs.declared.flat.FlatShelf.{FlatShelf}
 use Rattle.shelf.specs.Contents.{Sound}
 use Rattle.shelf.specs.Bins.{figures}
-use Rattle.shelf.specs.Flat.{granted, used, placed_in, hit, other, first_from}
+use Rattle.shelf.specs.Flat.{granted, used, placed_in}
 use Rattle.std.proofs.lemmas.Bool.{and_parts, eqb-true, ltb-true}
 use Rattle.shelf.specs.FlatMeaning.{flat_meaning}
 

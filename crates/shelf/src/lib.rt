@@ -1,5 +1,6 @@
 // A shelf keeps bins and grants: what it means, and what each call makes of that.
 #![tactic(auto)]
+
 ghost use Rattle.std.specs.Prelude.{◌≡◌, ℕ, Bool, length, Decides};
 ghost use Rattle.amount.specs.Range.{meant};
 ghost use Rattle.shelf.specs.Contents.{Contents, Sound, Another, Tells};

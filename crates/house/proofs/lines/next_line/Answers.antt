@@ -1,6 +1,5 @@
-use Rattle.std.proofs.Common.{◌≡◌, ℕ, suc, ◌+◌, ◌-◌, ◌<◌, ◌≤◌, eqb, List, [], ◌∷◌, length, take, drop, sym, ap, ◌∙◌, ap₂, arith}
+use Rattle.std.proofs.Common.{length, sym}
 use Rattle.std.proofs.lemmas.Bool.{eqb-true}
-use Rattle.house.specs.Lines.{lines_of}
 use Rattle.house.proofs.LineEnds.{first_line, only_line, none_of}
 use Rattle.house.proofs.lines.next_line.Goals as goal
 

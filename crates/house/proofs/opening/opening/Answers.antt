@@ -1,4 +1,4 @@
-use Rattle.std.proofs.Common.{◌≡◌, true, false, ◌&&◌, sym, ap, ◌∙◌, ap₂}
+use Rattle.std.proofs.Common.{true, false, ◌&&◌, sym, ◌∙◌, ap₂}
 use Rattle.std.proofs.lemmas.Result.{err_from_is_err_and}
 use Rattle.house.proofs.Opens.{fault_opens, other-opens, house_opens}
 use Rattle.house.proofs.opening.opening.Goals as goal

@@ -1,4 +1,4 @@
-use Rattle.std.proofs.Common.{string_bytes, sym, ◌∙◌}
+use Rattle.std.proofs.Common.{string_bytes, ◌∙◌}
 use Rattle.house.specs.Lines.{lines_of}
 use Rattle.house.proofs.Prints.{none_opened, one_opened}
 use Rattle.house.proofs.program.find_house.Goals as goal

@@ -1,11 +1,10 @@
-use Rattle.std.proofs.Common.{◌≡◌, [], ◌∷◌, ◌++◌, Some, sym, refl, ap, ◌∙◌, subst}
+use Rattle.std.proofs.Common.{[], ◌∷◌, ◌++◌, Some, sym, ap, ◌∙◌}
 use Rattle.std.proofs.lemmas.Result.{err_from_is_err_and}
 use Rattle.forms.specs.declared.calls.Kind.{Kind}
 use Rattle.forms.specs.Reading.{read_of}
 use Rattle.ledger.specs.Meaning.{state}
 use Rattle.ledger.specs.Requests.{call_of, said_of}
 use Rattle.house.specs.Text.{answer_text, said_text}
-use Rattle.house.specs.Serving.{bin_in}
 use Rattle.house.proofs.Serves.{fault_served, unmade_served, call_served}
 use Rattle.house.proofs.serving.serve_line.Goals as goal
 

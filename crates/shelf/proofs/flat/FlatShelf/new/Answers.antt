@@ -1,4 +1,4 @@
-use Rattle.std.proofs.Common.{◌≡◌, ℕ, [], length, ℤ, Option, sym, ap, ◌∙◌, ap₂, zero-le, arith}
+use Rattle.std.proofs.Common.{ℕ, [], length, ℤ, Option, ap, ◌∙◌, ap₂, zero-le}
 use mathlib.Core.Path.{fun_ext}
 use Rattle.std.proofs.lemmas.List.{length-replicate}
 use Rattle.shelf.specs.Contents.{Contents}

@@ -1,7 +1,7 @@
-use Rattle.std.proofs.Common.{◌≡◌, ◌+◌, ◌<◌, length, get_or, pos, is_some, None, sym, ap, ◌∙◌, arith, rules}
+use Rattle.std.proofs.Common.{◌≡◌, ◌+◌, ◌<◌, length, pos, is_some, None, sym, ap, ◌∙◌, arith, rules}
 use Rattle.shelf.specs.declared.records.Grant.{Grant}
-use Rattle.shelf.specs.Flat.{hit, free, amount_in, granted, used}
-use Rattle.shelf.proofs.Laws.{found, Found, like_first, none_like, room_free, used-put, used_full, apart-put}
+use Rattle.shelf.specs.Flat.{free, amount_in, granted}
+use Rattle.shelf.proofs.Laws.{found, like_first, none_like, room_free, used-put, used_full, apart-put}
 use Rattle.shelf.proofs.InPlace.{placed_put}
 use Rattle.shelf.proofs.Changes.{put_none, no_place, there_already, all_used, can_put_lem, put_done}
 use Rattle.shelf.proofs.flat.methods.FlatShelfShelf.put.Goals as goal
