@@ -1,5 +1,5 @@
 -- What a run prints for what it reads.
---   opening_of   the house that a line opens
+--   opening_of  the house that a line opens
 --   served      what an open house prints for its lines
 --   unopened    what is printed while no house is open, and then by the house
 --   output      what is printed for a text

@@ -1,6 +1,6 @@
 -- The text of an answer.
---   answer_text   of the runner's answer
---   said_text     of the reference ledger's answer, in a house's kind of amount
+--   answer_text  of the runner's answer
+--   said_text    of the reference ledger's answer, in a house's kind of amount
 use Rattle.std.specs.Prelude.{ℕ, List, ◌++◌, codes, decimal}
 use Rattle.shelf.specs.Contents.{Figures as Bin}
 use Rattle.model.specs.Ledger.{Answer as Said}

@@ -1,7 +1,7 @@
 -- The reference ledger on whole numbers: its state, its calls, the refusals in their order, and what an accepted call does.
 --   Stage, Token, Active, State    a batch's token, the active batch, the ledger
 --   Call, Answer                   what is asked, what is answered
---   fit_shelf, opens                a shelf that a ledger can work on; a ledger as it is opened
+--   fit_shelf, opens               a shelf that a ledger can work on; a ledger as it is opened
 --   checks                         for each call the tests that refuse it, with their numbers, in order
 --   verdict                        how an ask is judged: granted, failed, or in doubt
 --   act, step                      what an accepted call does; one call on the ledger

@@ -1,7 +1,7 @@
 -- A ledger over a list of calls: where they lead it, what it answers, and its journal.
 --   after       the ledger after the calls
 --   told        the calls with their answers
---   journal_at   the journal from the opening on
+--   journal_at  the journal from the opening on
 --   Reached     the calls have led a ledger, from its opening on some shelf, to where this one stands
 use Rattle.std.specs.Prelude.{◌≡◌, ℕ, List, [], ◌∷◌}
 use Rattle.shelf.specs.Contents.{Contents, Sound}

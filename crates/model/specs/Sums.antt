@@ -1,7 +1,7 @@
 -- The sums that the ledger makes for a call.
---   ask_sums      the three figures of a bin with an ask on top
---   settle_sums   the figures after a settled batch, in each bin where it held a grant
---   sums_of       all sums of a call; a refused call makes none
+--   ask_sums     the three figures of a bin with an ask on top
+--   settle_sums  the figures after a settled batch, in each bin where it held a grant
+--   sums_of      all sums of a call; a refused call makes none
 --   EachInside   each of the numbers lies between a bound and its opposite
 use Rattle.std.specs.Prelude.{◌≡◌, ℕ, suc, true, List, [], ◌∷◌, ◌++◌, ℤ, ◌+ℤ◌, Some, None, Option}
 use Rattle.amount.specs.Range.{inside}

@@ -1,9 +1,9 @@
 -- What a shelf holds, and what each of its calls makes of that.
 --   Figures    a bin: floor, ceiling, and the lowest, expected and highest that it can come to
 --   Contents   bins, grants, how many grants, and the two capacities
---   bin_of, amount_at            what a question answers
---   canAdd, can_set, can_put     when a change is accepted
---   after_add, after_set, after_put, after_take    what a change leaves
+--   bin_of, amount_at          what a question answers
+--   can_add, can_set, can_put  when a change is accepted
+--   after_add, after_set, after_put, after_take  what a change leaves
 --   Tells, Another             the lowest bin of a batch; whether another batch holds a grant in a bin
 --   Sound      what holds of every shelf
 use Rattle.std.specs.Prelude.{◌≡◌, ℕ, zero, suc, ◌+◌, ◌-◌, ◌<◌, ◌≤◌, Bool, true, false, cond, not, ◌&&◌, List, [], ◌∷◌, ◌++◌, length, ℤ, is_some, Some, None, Option, ◌==◌, ◌≢◌, nat_lt}

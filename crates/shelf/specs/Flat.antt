@@ -1,7 +1,7 @@
 -- What the records of a flat shelf mean: a grant's place holds it, and any other place is free.
---   hit, other, free       what one place holds
+--   hit, other, free        what one place holds
 --   first_from, pick        the first place that passes a test; what it is worth
---   granted                the amount granted to a batch in a bin
+--   granted                 the amount granted to a batch in a bin
 --   lowest_of               the lowest bin of a batch
 --   used, apart, placed_in  how many places are used; no two grants alike; every grant in a bin below the capacity
 --   flat_contents           the contents that bins and places mean

@@ -1,25 +1,16 @@
-use Rattle.std.proofs.Common.{ℕ, [], length, ℤ, Option, ap, ◌∙◌, ap₂, zero-le}
-use mathlib.Core.Path.{fun_ext}
-use Rattle.std.proofs.lemmas.List.{length-replicate}
-use Rattle.shelf.specs.Contents.{Contents}
-use Rattle.shelf.specs.Flat.{used, apart, granted, placed_in}
-use Rattle.shelf.proofs.InPlace.{placed_none}
-use Rattle.shelf.proofs.Laws.{used_none, apart_none, granted_none}
+-- After clearing, every place is free. The answers name no call, so that a making which does not clear is refused by its meaning.
+use Rattle.std.proofs.Common.{length, rules}
+use Rattle.shelf.proofs.Cleared.{used_cleared, apart_cleared, placed_cleared, meaning_cleared}
 use Rattle.shelf.proofs.flat.FlatShelf.new.Goals as goal
 
-pub invariant_of-result : goal.invariant_of-result
-invariant_of-result g c =
-    let n = length c.args.grants.now in
-    record {
-      fits = zero-le;
-      counted = ap used c.clear.ensures ∙ used_none g.row.A.Denot n;
-      distinct = ap apart c.clear.ensures ∙ apart_none g.row.A.Denot n;
-      placed = ap (placed_in (length c.args.bins.now)) c.clear.ensures ∙ placed_none g.row.A.Denot _ n;
-    }
+pub invariant_of-result-clause-counted : goal.invariant_of-result-clause-counted
+invariant_of-result-clause-counted g c = search (rules, used_cleared)
+
+pub invariant_of-result-clause-distinct : goal.invariant_of-result-clause-distinct
+invariant_of-result-clause-distinct g c = search (rules, apart_cleared)
+
+pub invariant_of-result-clause-placed : goal.invariant_of-result-clause-placed
+invariant_of-result-clause-placed g c = search (rules, placed_cleared {A = g.row.A.Denot} (length c.args.bins.now))
 
 pub returns : goal.returns
-returns g c =
-    let f = g.A.Amount.means in
-    let n = length c.args.grants.now in
-    ap₂ (λ (q : ℕ → ℕ → Option ℤ) (p : ℕ). let s : Contents = record { bins = []; grants = q; held = 0; bin_capacity = length c.args.bins.now; grant_capacity = p } in s)
-    (fun_ext (λ b. fun_ext (λ k. ap (λ xs. granted f xs b k) c.clear.ensures ∙ granted_none f n b k))) (ap length c.clear.ensures ∙ length-replicate n _)
+returns g c = meaning_cleared g.A.Amount.means c.args.bins.now _ (length c.args.grants.now) (cc)
