@@ -1,4 +1,6 @@
 // The queue of closed batches: their numbers, the oldest first.
+#![tactic(auto)]
+
 ghost use Rattle.std.specs.Prelude.{◌≤◌};
 ghost use Rattle.queue.specs.Limit.{queue_capacity};
 
