@@ -1,12 +1,10 @@
 -- What grams mean, and which can be made from outside numbers.
-use Rattle.std.specs.Prelude.{ℕ, cond, ℤ, Ok, Err, Result}
+use Rattle.std.specs.Prelude.{cond, ℤ, Ok, Err, Result}
 use Rattle.refusal.specs.declared.Refusal.{Refusal}
 use Rattle.refusal.specs.declared.Refusal.TheVariants.{OverLimit}
 use Rattle.amount.specs.Range.{inside, figure}
+pub use Rattle.amount.specs.Limits.{gram_limit}
 use Rattle.amount.specs.declared.grams.Grams.{Grams}
-
-abbrev pub gram_limit : ℕ
-gram_limit = 1000000000000
 
 -- grams mean themselves
 abbrev pub grams : Grams → ℤ

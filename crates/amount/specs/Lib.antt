@@ -1,3 +1,4 @@
 pub mod Range
+pub mod Limits
 pub mod Grams
 pub mod Trays

@@ -1,17 +1,11 @@
 -- What trays and loose pieces mean, and which can be made from outside numbers.
-use Rattle.std.specs.Prelude.{ℕ, cond, ℤ, pos, ◌+ℤ◌, ◌*ℤ◌, Ok, Err, Result, nat_le, unsigned_abs}
+use Rattle.std.specs.Prelude.{ℕ, cond, ℤ, pos, Ok, Err, Result, nat_le, unsigned_abs}
 use Rattle.std.specs.Int.{int_div_euclid, int_rem_euclid}
 use Rattle.refusal.specs.declared.Refusal.{Refusal}
 use Rattle.refusal.specs.declared.Refusal.TheVariants.{OverLimit, UnevenTray}
 use Rattle.amount.specs.Range.{inside, figure}
+pub use Rattle.amount.specs.Limits.{tray_limit, in_pieces}
 use Rattle.amount.specs.declared.trays.Trays.{Trays}
-
-abbrev pub tray_limit : ℕ
-tray_limit = 24000000
-
--- t trays of 24 and l loose pieces
-abbrev pub in_pieces : ℤ → ℕ → ℤ
-in_pieces t l = t *ℤ pos 24 +ℤ pos l
 
 -- trays mean their pieces; with more than 23 loose they mean zero
 abbrev pub pieces : Trays → ℤ

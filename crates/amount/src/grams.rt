@@ -1,76 +1,63 @@
 // Whole grams: they mean themselves.
-ghost use Rattle.std.specs.Prelude.{◌≡◌};
-ghost use Rattle.amount.specs.Grams.{gram_limit, grams, grams_made};
-ghost use Rattle.amount.specs.Range.{made};
+ghost use Rattle.std.specs.Prelude.{◌≡◌, ◌*◌, true, pos};
+ghost use Rattle.amount.specs.Limits.{gram_limit};
+ghost use Rattle.amount.specs.Range.{inside, made};
 ghost use Rattle.std.proofs.Common.{rules};
 
-use crate::Amount;
-use crate::bounds::{lies_within, sum_within};
+use crate::Counted;
+use crate::bounds::if_within;
 use refusal::Refusal;
 
-// The limit L of grams.
-const LIMIT: u64 = 1_000_000_000_000;
-
-#[derive(Clone, Copy, Default)]
+#[derive(Clone, Copy, Debug, PartialEq, Eq, PartialOrd, Ord, Hash)]
 pub struct Grams {
     grams: i64,
+    ghost within: { inside (2 * gram_limit) grams ≡ true },
 }
 
 impl Grams {
+    ghost use Rattle.amount.specs.Grams.{grams, grams_made};
+
     // An amount from an outside number, refused over the limit.
     pub fn new(number: i64) -> Result<Grams, Refusal>
         ensures { made grams result ≡ grams_made number }
     {
-        if lies_within(number, LIMIT) {
-            Ok(Grams { grams: number })
-        } else {
-            Err(Refusal::OverLimit)
-        }
-    }
-
-    // The number meant: a figure outside -2L to 2L means zero.
-    pub fn number(self) -> i64
-        ensures { result ≡ grams self }
-    {
-        if lies_within(self.grams, 2 * LIMIT) {
-            self.grams
-        } else {
-            0
-        }
+        let grams = if_within(number, Grams::LIMIT).ok_or(Refusal::OverLimit)?;
+        Ok(Grams { grams })
     }
 }
 
-impl Amount for Grams {
+// By hand, since no derive shows the fact that a ghost field states.
+impl Default for Grams {
+    ghost use Rattle.amount.specs.Grams.{grams};
+
+    ghost is_default = { λ x. grams x ≡ pos 0 };
+
+    fn default() -> Grams {
+        Grams { grams: 0 }
+    }
+}
+
+impl Counted for Grams {
+    ghost use Rattle.amount.specs.Grams.{grams};
+
     ghost means = { grams };
 
-    ghost limit = { gram_limit };
+    ghost LIMIT = { gram_limit };
 
     ghost limited = { Prim.search rules };
 
+    ghost small = { Prim.search rules };
+
     ghost bounded = { Prim.search rules };
 
-    fn checked_add(self, other: Grams) -> Option<Grams> {
-        match sum_within(self.number(), other.number(), LIMIT) {
-            Some(total) => Some(Grams { grams: total }),
-            None => None,
-        }
+    const LIMIT: u64 = 1_000_000_000_000;
+
+    fn number(self) -> i64 {
+        self.grams
     }
 
-    fn opposite(self) -> Grams {
-        Grams {
-            grams: -self.number(),
-        }
-    }
-
-    fn less_than(self, other: Grams) -> bool {
-        self.number() < other.number()
-    }
-
-    fn is_zero(self) -> bool {
-        self.number() == 0
-    }
-
-    fn within_limit(self) -> bool {
-        lies_within(self.number(), LIMIT)
+    fn of_number(n: i64) -> Option<Grams> {
+        let grams = if_within(n, 2 * Grams::LIMIT)?;
+        Some(Grams { grams })
     }
 }

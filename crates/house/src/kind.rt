@@ -5,9 +5,9 @@ ghost use Rattle.forms.specs.declared.calls.Kind.{Kind};
 ghost use Rattle.forms.specs.declared.calls.Kind.TheVariants as kind;
 ghost use Rattle.house.specs.Kinds.{makes, writes};
 
-use amount::Amount;
 use amount::grams::Grams;
 use amount::trays::Trays;
+use amount::{Amount, Counted};
 use forms::calls::{Figures, Kind};
 use refusal::Refusal;
 

@@ -7,7 +7,7 @@ ghost use Rattle.refusal.specs.Table.{number_of, refusal_text};
 use std::fmt;
 
 // A refusal, named by what is wrong; a refused call changes nothing.
-#[derive(Clone, Copy, Debug)]
+#[derive(Clone, Copy, Debug, PartialEq, Eq, Hash)]
 pub enum Refusal {
     UnfitShelf,
     BadFigures,
@@ -29,7 +29,7 @@ pub enum Refusal {
 }
 
 impl Refusal {
-    // The number that the outside world knows the refusal by.
+    // The number that the outside world knows the refusal by. `u32::from` would not say which number.
     pub fn number(self) -> u32
         ensures { result ≡ number_of self }
     {
@@ -67,3 +67,5 @@ impl fmt::Display for Refusal {
         }
     }
 }
+
+impl std::error::Error for Refusal {}

@@ -1,7 +1,7 @@
 // The making of amounts, and trays that carry over.
-use amount::Amount;
 use amount::grams::Grams;
 use amount::trays::Trays;
+use amount::{Amount, Counted};
 use refusal::Refusal;
 use std::test::Fail;
 
