@@ -3,14 +3,12 @@ pub mod Numbers
 pub mod Pieces
 pub mod Patterns
 pub mod Sofar
-pub mod Puts
-pub mod Along
-pub mod Fitting
+pub mod Made
 pub mod Counts
 pub mod Entries
 pub mod Tries
 pub mod Once
 pub mod Readings
-pub mod Splits
 pub mod Runs
+pub mod Splits
 pub mod Examples

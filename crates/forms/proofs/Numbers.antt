@@ -1,10 +1,11 @@
 -- Where a written number ends.
-use Rattle.std.proofs.Common.{◌≡◌, ℕ, suc, ◌+◌, ◌-◌, ◌*◌, ◌/◌, ◌%◌, ◌^◌, ◌<◌, ◌≤◌, Bool, true, false, ◌⊎◌, List, [], ◌∷◌, ◌++◌, length, get_or, drop, ℤ, pos, negsuc, decimal, sym, refl, ap, ◌∙◌, subst, inr, ⊎_elim, append_assoc, arith, length-append}
+use Rattle.std.proofs.Common.{◌≡◌, ℕ, suc, ◌+◌, ◌-◌, ◌*◌, ◌/◌, ◌%◌, ◌^◌, ◌<◌, ◌≤◌, Bool, true, false, ◌⊎◌, List, [], ◌∷◌, ◌++◌, length, get_or, drop, ℤ, pos, negsuc, decimal, sym, refl, ap, ◌∙◌, subst, ⊎_elim, append_assoc, arith, length-append, drop-drop}
+use Rattle.std.proofs.Math.Numerals.{one-add}
 use Rattle.std.specs.Fmt.{signed_decimal}
-use Rattle.std.proofs.lemmas.Fmt.{decimal_by_steps, decimal_digit, decimal_step, decimal_nonempty, decimal_injective}
-use Rattle.std.proofs.lemmas.List.{same_from_push, drop_more, drop_all}
+use Rattle.std.proofs.lemmas.Fmt.{decimal_by_steps, decimal_step, decimal_nonempty, decimal_injective}
+use Rattle.std.proofs.lemmas.List.{same_from_push, drop_more}
 use Rattle.forms.specs.Patterns.{Suits}
-use Rattle.forms.specs.Numbers.{first, Goes, GoesOn, Took}
+use Rattle.forms.specs.Numbers.{first, Goes, GoesOn, Took, Counted}
 
 -- one of two ends of a list is a front of the other
 pub data Cut (a u b u' : List ℕ) : Type 0 where
@@ -123,23 +124,12 @@ digits_more s xs v i pv l lo hi small h =
     let t = append_assoc (decimal v) (get_or xs i 0 ∷ []) (drop (i + 1) xs) in
     h ∙ ap (λ x. decimal v ++ x) (drop_more xs i 0 l) ∙ sym t ∙ ap (λ x. x ++ drop (i + 1) xs) (ap (λ x. decimal v ++ (x ∷ [])) (sym b) ∙ sym e)
 
-pub digits_one : (xs : List ℕ) (i : ℕ) → i < length xs → 48 ≤ get_or xs i 0 → get_or xs i 0 < 58 → drop i xs ≡ decimal (get_or xs i 0 - 48) ++ drop (i + 1) xs
-digits_one xs i l lo hi =
-    let b : 48 + (get_or xs i 0 - 48) ≡ get_or xs i 0 = omega arith in
-    drop_more xs i 0 l ∙ ap (λ x. x ++ drop (i + 1) xs) (ap (λ x. x ∷ []) (sym b) ∙ sym (decimal_digit (get_or xs i 0 - 48) (omega arith)))
-
-pub first-drop : (xs : List ℕ) (i : ℕ) → i < length xs → first (drop i xs) ≡ get_or xs i 0
-first-drop xs i l = ap first (drop_more xs i 0 l)
-
-pub first_end : (xs : List ℕ) (i : ℕ) → length xs ≤ i → first (drop i xs) ≡ 256
-first_end xs i l = ap first (drop_all i xs l)
-
--- the byte at i is below lo or no digit, or there is none
-pub off : (xs : List ℕ) (i lo : ℕ) → i < length xs → (get_or xs i 0 < lo) ⊎ (58 ≤ get_or xs i 0) → (first (drop i xs) < lo) ⊎ (58 ≤ first (drop i xs))
-off xs i lo l h = subst (λ x. (x < lo) ⊎ (58 ≤ x)) (sym (first-drop xs i l)) h
-
-pub off_end : (xs : List ℕ) (i lo : ℕ) → length xs ≤ i → (first (drop i xs) < lo) ⊎ (58 ≤ first (drop i xs))
-off_end xs i lo l = let e = first_end xs i l in inr (omega arith)
+-- the digits that begin with d, where d stands at `at`
+pub counted_at : (limit least d n len at : ℕ) (xs rest : List ℕ) → least ≤ d → drop at xs ≡ d ∷ rest → Counted limit d (d ∷ rest) n (drop len rest)
+    → Counted limit least (drop at xs) n (drop (at + (1 + len)) xs)
+counted_at limit least d n len at xs rest l here k =
+    let left : drop (at + (1 + len)) xs ≡ drop len rest = sym (drop-drop (1 + len) at xs) ∙ rw (here, one-add) in
+    rw (left, here) (record { fits = k.fits; front = k.front; stops = k.stops; leads = λ h. k.leads (omega arith) })
 
 pub took_minus : (limit n : ℕ) (s t s' : List ℕ) → 0 < n → n ≤ limit → s ≡ 45 ∷ t → t ≡ decimal n ++ s' → (Goes limit n (first s') → ⊥) → Took limit true s (negsuc (n - 1)) s'
 took_minus limit n s t s' h l e f stops =

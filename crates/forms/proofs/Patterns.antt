@@ -1,11 +1,12 @@
 -- What each piece of a pattern does to a fault.
-use Rattle.std.proofs.Common.{◌≡◌, ℕ, suc, ◌+◌, ◌^◌, ◌<◌, ◌≤◌, Bool, true, false, ◌⊎◌, List, [], ◌∷◌, ◌++◌, length, get_or, ℤ, pos, negsuc, decimal, sym, refl, ap, ◌∙◌, subst, inr, ⊎_elim, zero-le, arith}
+use Rattle.std.proofs.Common.{◌≡◌, ℕ, zero, suc, ◌+◌, ◌^◌, ◌<◌, ◌≤◌, Bool, true, false, ◌⊎◌, List, [], ◌∷◌, ◌++◌, length, get_or, take, drop, ℤ, pos, negsuc, decimal, sym, refl, ap, ◌∙◌, subst, inr, ⊎_elim, zero-le, arith}
 use Rattle.std.specs.Fmt.{signed_decimal}
 use Rattle.std.proofs.lemmas.Fmt.{first_decimal}
-use Rattle.forms.specs.Faults.{Fault}
+use Rattle.std.proofs.lemmas.List.{drop_more}
+use Rattle.forms.specs.Faults.{Begins, Fault}
 use Rattle.forms.specs.Patterns.{Piece, text, number, Suits, Fits, fill, Lines, Breaks}
 use Rattle.forms.proofs.Faults.{onward, stuck}
-use Rattle.forms.specs.Numbers.{first, GoesOn}
+use Rattle.forms.specs.Numbers.{Limit, first, Stands, GoesOn, NoDigit, Missing}
 use Rattle.forms.proofs.Numbers.{first-digit, clash, munch_signed}
 
 pub breaks : (ps : List Piece) (vs : List ℤ) → Breaks ps → (first (fill ps vs) < 48) ⊎ (58 ≤ first (fill ps vs))
@@ -74,13 +75,9 @@ module _ (limit : ℕ) (minus : Bool) (small : limit < 2 ^ 64) (ps : List Piece)
 
   -- a minus, and then neither 1 nor another digit above it
   pub minus_stops : (s : List ℕ) → minus ≡ true → 1 ≤ limit → (first s < 49) ⊎ (58 ≤ first s) → Fault (Lines (number limit minus ∷ ps)) (45 ∷ s) 1
-  minus_stops s m one h = stuck (Lines (number limit minus ∷ ps)) (45 ∷ []) s (decimal 1 ++ fill ps (zeros ps), (negsuc 0 ∷ zeros ps, (suits minus m, zeros_fit ps), refl))
+  minus_stops s m one h = stuck (Lines (number limit minus ∷ ps)) (45 ∷ []) s (decimal 1 ++ fill ps (zeros ps), (negsuc 0 ∷ zeros ps, (rw m one, zeros_fit ps), refl))
       (λ u e l. no' minus l.0 l.1 u e l.2)
     where
-      suits : (minus : Bool) → minus ≡ true → Suits limit minus (negsuc 0)
-      suits true e = one
-      suits false e = absurd (let z : ◌≡◌ {A = ℕ} 0 1 = cc in omega arith)
-
       no' : (minus : Bool) → (vs : List ℤ) → Fits (number limit minus ∷ ps) vs → (u : List ℕ) → first u ≡ first s → 45 ∷ u ≡ fill (number limit minus ∷ ps) vs → ⊥
       no' minus [] f u e eq = f
       no' minus (pos n ∷ vs) f u e eq = clash n (fill ps vs) u (omega (arith, f.0)) (sym eq)
@@ -91,8 +88,21 @@ module _ (limit : ℕ) (minus : Bool) (small : limit < 2 ^ 64) (ps : List Piece)
           ⊎_elim (λ l. omega (arith, g.0, k)) (λ l. omega (arith, g.1, k)) h
       no' false (negsuc n ∷ vs) f u e eq = f.0
 
-pub end_stops : (s : List ℕ) → first s < 256 → Fault (Lines []) s 0
-end_stops s h = stuck (Lines []) [] s ([], ([], tt, refl)) (λ u e l. no' u e l.2)
+-- no number is at `at`, with no minus and with one
+pub missing_plain : (limit : ℕ) (minus : Bool) (xs : List ℕ) (at : ℕ) → limit < 2 ^ 64 → NoDigit 48 (drop at xs) → (minus ≡ true → first (drop at xs) ≡ 45 → ⊥) → Missing limit minus xs at at
+missing_plain limit minus xs at small h m = (0, omega arith, λ ps. number_stops limit minus small ps (drop at xs) h m)
+
+pub missing_minus : (limit : ℕ) (xs : List ℕ) (at : ℕ) → Limit limit → Stands xs at 45 → NoDigit 49 (drop (at + 1) xs) → Missing limit true xs at (at + 1)
+missing_minus limit xs at l here h =
+    (1, refl, λ ps. rw (drop_more xs at 0 here.0, here.1) (minus_stops limit true (omega arith) ps (drop (at + 1) xs) refl (omega arith) h))
+
+-- nothing is left of the pattern
+pub end_stops : (b : ℕ) (s : List ℕ) → Fault (Lines []) (b ∷ s) 0
+end_stops b s = record { none = λ h. no' h.2; within = zero-le; shared = ([], ([], tt, refl)); most = λ m h g. at m g }
   where
-    no' : (u : List ℕ) → first u ≡ first s → u ≡ [] → ⊥
-    no' u e eq = let k : first u ≡ 256 = ap first eq in omega arith
+    no' : {x : ℕ} {xs : List ℕ} → x ∷ xs ≡ [] → ⊥
+    no' e = cc
+
+    at : (m : ℕ) → Begins (Lines []) (take m (b ∷ s)) → m ≤ 0
+    at zero g = zero-le
+    at (suc m) g = absurd (no' g.1.2)

@@ -1,10 +1,9 @@
 -- The words of a line are its longest runs.
-use Rattle.std.proofs.Common.{◌≡◌, ℕ, suc, ◌+◌, ◌-◌, ◌<◌, ◌≤◌, Bool, true, false, cond, ltb, ◌⊎◌, List, [], ◌∷◌, ◌++◌, length, get_or, drop, sym, refl, ap, ◌∙◌, subst, inl, inr, ⊎_elim, append-nil, zero-le, arith, length-drop, ltb-true}
+use Rattle.std.proofs.Common.{◌≡◌, ℕ, suc, ◌+◌, ◌-◌, ◌<◌, ◌≤◌, Bool, true, false, cond, ltb, ◌⊎◌, List, [], ◌∷◌, ◌++◌, length, get_or, drop, sym, refl, ap, ◌∙◌, subst, inl, inr, ⊎_elim, append-nil, zero-le, arith, length-drop, lt-ltb, ltb-true}
 use native.Mathlib.Decide.{dec_le}
 use Rattle.std.proofs.lemmas.List.{drop_more}
 use Rattle.forms.specs.Words.{Span, parting, closed, spans_from, AllWords, Covers, Ascends, Runs}
 use Rattle.forms.proofs.Numbers.{both_ways}
-use Rattle.forms.proofs.Splits.{closed_some}
 
 all_more : (line : List ℕ) (ws vs : List Span) → AllWords line ws → AllWords line vs → AllWords line (ws ++ vs)
 all_more line [] vs h k = k
@@ -18,6 +17,9 @@ covers_right : (i : ℕ) (ws vs : List Span) → Covers i vs → Covers i (ws ++
 covers_right i [] vs c = c
 covers_right i (w ∷ ws) vs c = inr (covers_right i ws vs c)
 
+closed_some : (from to : ℕ) → from < to → closed from to ≡ record { from = from; to = to } ∷ []
+closed_some from to h = let e = lt-ltb from to h in ap (λ b. cond b (record { from = from; to = to } ∷ []) []) e
+
 covers_closed : (i from to : ℕ) → from ≤ i → i < to → Covers i (closed from to)
 covers_closed i from to l h = subst (Covers i) (sym (closed_some from to (omega arith))) (inl (l, h))
 
@@ -29,10 +31,10 @@ ascends_closed n from to vs l h next = go (ltb from to)
     go false = next n (omega arith)
 
 -- a word may go on at `at` that began at `from`
-record Going (line : List ℕ) (from at : ℕ) : Type 0 where
-  within : (from ≤ at) × (at ≤ length line)
-  inside : (k : ℕ) → from ≤ k → k < at → parting (get_or line k 0) ≡ false
-  before : (from ≡ 0) ⊎ (parting (get_or line (from - 1) 0) ≡ true)
+pub record Going (line : List ℕ) (from at : ℕ) : Type 0 where
+  pub within : (from ≤ at) × (at ≤ length line)
+  pub inside : (k : ℕ) → from ≤ k → k < at → parting (get_or line k 0) ≡ false
+  pub before : (from ≡ 0) ⊎ (parting (get_or line (from - 1) 0) ≡ true)
 
 module _ (line : List ℕ) where
   closed_word : (from at : ℕ) → Going line from at → (at ≡ length line) ⊎ (parting (get_or line at 0) ≡ true) → AllWords line (closed from at)
@@ -43,7 +45,7 @@ module _ (line : List ℕ) where
       go false e = tt
 
   -- the place of the next byte
-  next_at : (at b : ℕ) (s : List ℕ) → drop at line ≡ b ∷ s → (at < length line) × (get_or line at 0 ≡ b) × (drop (suc at) line ≡ s)
+  pub next_at : (at b : ℕ) (s : List ℕ) → drop at line ≡ b ∷ s → (at < length line) × (get_or line at 0 ≡ b) × (drop (suc at) line ≡ s)
   next_at at b s e =
       let l : at < length line = omega (arith, ap length e, length-drop at line) in
       let d = drop_more line at 0 l in
@@ -51,6 +53,22 @@ module _ (line : List ℕ) where
       let h : get_or line at 0 ≡ b = cc in
       let t : drop (at + 1) line ≡ s = cc in
       (l, h, ap (λ k. drop k line) (sym n) ∙ t)
+
+  -- one begins at the start, and after a byte that parts two, and goes on over any other
+  pub first : Going line 0 0
+  first = record { within = (omega arith, zero-le); inside = λ k l u. absurd (omega arith); before = inl refl }
+
+  pub begins : (at : ℕ) → at < length line → parting (get_or line at 0) ≡ true → Going line (suc at) (suc at)
+  begins at l h =
+      let k : suc at - 1 ≡ at = omega arith in
+      record { within = (omega arith, omega arith); inside = λ j l u. absurd (omega arith); before = inr (ap (λ j. parting (get_or line j 0)) k ∙ h) }
+
+  pub goes_on : (from at : ℕ) → at < length line → parting (get_or line at 0) ≡ false → Going line from at → Going line from (suc at)
+  goes_on from at l p g = record {
+    within = (omega (arith, g.within.0), omega arith);
+    inside = λ j m u. elim (dec_le (suc j) at) [ yes v ↦ g.inside j m v | no v ↦ (let q : j ≡ at = omega arith in ap (λ x. parting (get_or line x 0)) q ∙ p) ];
+    before = g.before;
+  }
 
   runs : (s : List ℕ) (from at : ℕ) → drop at line ≡ s → Going line from at → AllWords line (spans_from from at s)
   runs [] from at e g = closed_word from at g (inl (omega (arith, ap length e, length-drop at line, g.within.1)))
@@ -62,14 +80,8 @@ module _ (line : List ℕ) where
           → AllWords line (cond t (closed from at ++ spans_from (suc at) (suc at) s) (spans_from from (suc at) s))
       go true p n fresh same =
           let h : parting (get_or line at 0) ≡ true = ap parting n.1 ∙ p in
-          let k : suc at - 1 ≡ at = omega arith in
-          all_more line (closed from at) _ (closed_word from at g (inr h))
-          (fresh (record { within = (omega arith, omega (arith, n.0)); inside = λ j l u. absurd (omega arith); before = inr (ap (λ j. parting (get_or line j 0)) k ∙ h) }))
-      go false p n fresh same = same (record {
-        within = (omega (arith, g.within.0), omega (arith, n.0));
-        inside = λ j l u. elim (dec_le (suc j) at) [ yes v ↦ g.inside j l v | no v ↦ (let q : j ≡ at = omega arith in ap (λ x. parting (get_or line x 0)) q ∙ ap parting n.1 ∙ p) ];
-        before = g.before;
-      })
+          all_more line (closed from at) _ (closed_word from at g (inr h)) (fresh (begins at n.0 h))
+      go false p n fresh same = same (goes_on from at n.0 (ap parting n.1 ∙ p) g)
 
   order : (s : List ℕ) (n from at : ℕ) → n ≤ from → from ≤ at → Ascends n (spans_from from at s)
   order [] n from at l h = subst (Ascends n) (append-nil (closed from at)) (ascends_closed n from at [] l h (λ k u. tt))
@@ -96,7 +108,7 @@ module _ (line : List ℕ) where
 
 pub all_runs : (line : List ℕ) → Runs line
 all_runs line = record {
-  words = runs line line 0 0 refl (record { within = (omega arith, zero-le); inside = λ k l u. absurd (omega arith); before = inl refl });
+  words = runs line line 0 0 refl (first line);
   order = order line line 0 0 0 (omega arith) (omega arith);
   whole = λ i l p. whole line line i 0 0 refl zero-le l p;
 }

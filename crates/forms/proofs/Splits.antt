@@ -1,66 +1,58 @@
--- How far a line has been split into words.
-use Rattle.std.proofs.Common.{◌≡◌, ℕ, suc, ◌+◌, ◌<◌, ◌≤◌, min, true, false, cond, List, [], ◌∷◌, ◌++◌, map, length, get_or, take, drop, set, sym, ap, ◌∙◌, append_assoc, append-nil, arith, length-append, length-take, get_or-take, lt-ltb}
-use mathlib.Core.List.{map-append}
-use lib.ListN.{length-map}
-use Rattle.std.proofs.lemmas.List.{take_more_set, get_or-map, drop_more, drop_all, map_push}
-use Rattle.forms.specs.Words.{Span, most_words, parting, closed, cut, cuts, spans_from, spans}
+-- The parts of a line that are not empty are its words.
+use Rattle.std.proofs.Common.{◌≡◌, ℕ, suc, ◌+◌, ◌-◌, ◌<◌, Bool, true, false, cond, not, ltb, eqb, List, [], ◌∷◌, ◌++◌, length, get_or, drop, sym, refl, ap, ◌∙◌, append-nil, arith, eq-eqb, ne_eqb, ltb-true, ltb-false}
+use Rattle.std.specs.List.{All, between, filter, slice_split}
+use Rattle.std.proofs.lemmas.List.{take-append-drop, drop-drop}
+use Rattle.std.proofs.lemmas.List.Edits.{length-between, get_or-between}
+use Rattle.std.proofs.lemmas.List.Splits.{slice_split_none, slice_split_at}
+use Rattle.std.proofs.lemmas.Grind.{get_or_default_zero}
+use Rattle.forms.specs.Words.{Span, parting, closed, cuts, spans_from, spans}
+use Rattle.forms.proofs.Runs.{Going, next_at, first, begins, goes_on}
 
--- the first n of some parts, by what each holds
-module _ {X : Type 0} (f : X → List ℕ) (xs : List X) (n : ℕ) where
-  pub held-length : length (map f (take n xs)) ≡ min n (length xs)
-  held-length = length-map (take n xs) f ∙ length-take n xs
+-- whether the part is a word
+abbrev pub some : List ℕ → Bool
+some part = not (eqb (length part) 0)
 
-  pub held_at : (i : ℕ) (d : X) → i < n → i < length xs → f (get_or xs i d) ≡ get_or (map f (take n xs)) i []
-  held_at i d l h = ap f (sym (get_or-take n xs i d l)) ∙ sym (get_or-map f (take n xs) i d [] (omega (arith, length-take n xs)))
+module _ (line : List ℕ) where
+  plain : (from at : ℕ) → Going line from at → All (λ b. parting b ≡ false) (between from at line)
+  plain from at g k d l =
+      let n = length-between line from at g.within.1 in
+      ap parting (get_or-between line from at k d (omega arith) ∙ get_or_default_zero line (from + k) d (omega (arith, g.within))) ∙ g.inside (from + k) (omega arith) (omega arith)
 
-  pub held_more : (y : X) → n < length xs → map f (take (n + 1) (set xs n y)) ≡ map f (take n xs) ++ (f y ∷ [])
-  held_more y l = ap (map f) (take_more_set xs n y l) ∙ map_push f (take n xs) y
+  -- the line from the word on
+  parted : (from at : ℕ) → Going line from at → drop from line ≡ between from at line ++ drop at line
+  parted from at g =
+      let n : from + (at - from) ≡ at = omega (arith, g.within) in
+      sym (take-append-drop (at - from) (drop from line)) ∙ ap (λ s. between from at line ++ s) (drop-drop (at - from) from line ∙ ap (λ k. drop k line) n)
 
-pub closed_some : (from to : ℕ) → from < to → closed from to ≡ record { from = from; to = to } ∷ []
-closed_some from to h = let e = lt-ltb from to h in ap (λ b. cond b (record { from = from; to = to } ∷ []) []) e
+  -- a part, where others follow
+  part_more : (from at : ℕ) (parts : List (List ℕ)) (ws : List Span) → Going line from at → filter some parts ≡ cuts line ws → filter some (between from at line ∷ parts) ≡ cuts line (closed from at ++ ws)
+  part_more from at parts ws g h = go (ltb from at) refl
+    where
+      n : length (between from at line) ≡ at - from
+      n = length-between line from at g.within.1
 
--- there is room for one more
-pub below : {X : Type 0} (f : X → List ℕ) (xs : List X) (n from to : ℕ) → length xs ≡ most_words → from < to → length (map f (take n xs)) + length (closed from to) ≤ most_words → n < most_words
-below f xs n from to e l h = omega (arith, held-length f xs n, ap length (closed_some from to l))
+      go : (t : Bool) → ltb from at ≡ t → filter some (between from at line ∷ parts) ≡ cuts line (cond t (record { from = from; to = at } ∷ []) [] ++ ws)
+      go true e =
+          let l = ltb-true from at e in
+          ap (λ z. cond (not z) (between from at line ∷ filter some parts) (filter some parts)) (ne_eqb _ 0 (λ z. omega (arith, n))) ∙ ap (λ ps. between from at line ∷ ps) h
+      go false e =
+          let l = ltb-false from at e in
+          ap (λ z. cond (not z) (between from at line ∷ filter some parts) (filter some parts)) (eq-eqb _ 0 (omega (arith, n))) ∙ h
 
--- the words ts have been found as far as `at`, where a word goes on that began at `from`
-pub record Split (line : List ℕ) (ts : List (List ℕ)) (from at : ℕ) : Type 0 where
-  pub within : from ≤ at
-  pub rest : ts ++ cuts line (spans_from from at (drop at line)) ≡ cuts line (spans line)
+  parts : (s : List ℕ) (from at : ℕ) → drop at line ≡ s → Going line from at → filter some (slice_split parting (drop from line)) ≡ cuts line (spans_from from at s)
+  parts [] from at e g =
+      ap (λ s. filter some (slice_split parting s)) (parted from at g ∙ ap (λ s. between from at line ++ s) e ∙ append-nil _) ∙ ap (filter some) (slice_split_none parting _ (plain from at g)) ∙ part_more from at [] [] g refl
+      ∙ ap (cuts line) (append-nil (closed from at))
+  parts (b ∷ s) from at e g = let n = next_at line at b s e in go (parting b) refl n (λ g'. parts s (suc at) (suc at) n.2 g') (λ g'. parts s from (suc at) n.2 g')
+    where
+      go : (t : Bool) → parting b ≡ t → (at < length line) × (get_or line at 0 ≡ b) × (drop (suc at) line ≡ s)
+          → (Going line (suc at) (suc at) → filter some (slice_split parting (drop (suc at) line)) ≡ cuts line (spans_from (suc at) (suc at) s))
+          → (Going line from (suc at) → filter some (slice_split parting (drop from line)) ≡ cuts line (spans_from from (suc at) s))
+          → filter some (slice_split parting (drop from line)) ≡ cuts line (cond t (closed from at ++ spans_from (suc at) (suc at) s) (spans_from from (suc at) s))
+      go true p n fresh same =
+          ap (λ s. filter some (slice_split parting s)) (parted from at g ∙ ap (λ s. between from at line ++ s) e) ∙ ap (filter some) (slice_split_at parting (between from at line) b s (plain from at g) p)
+          ∙ part_more from at (slice_split parting s) (spans_from (suc at) (suc at) s) g (ap (λ s. filter some (slice_split parting s)) (sym n.2) ∙ fresh (begins line at n.0 (ap parting n.1 ∙ p)))
+      go false p n fresh same = same (goes_on line from at n.0 (ap parting n.1 ∙ p) g)
 
-module _ (line : List ℕ) (ts : List (List ℕ)) (from at : ℕ) (s : Split line ts from at) where
-  -- the words go on with more
-  more : (ws us : List Span) → spans_from from at (drop at line) ≡ ws ++ us → (ts ++ cuts line ws) ++ cuts line us ≡ cuts line (spans line)
-  more ws us e = append_assoc ts (cuts line ws) (cuts line us) ∙ ap (λ x. ts ++ x) (sym (map-append (cut line) ws us) ∙ ap (cuts line) (sym e)) ∙ s.rest
-
-  fewer : (ws us : List Span) → spans_from from at (drop at line) ≡ ws ++ us → length (spans line) ≤ most_words → length ts + length ws ≤ most_words
-  fewer ws us e h = omega (arith, ap length (more ws us e), length-append (ts ++ cuts line ws) (cuts line us), length-append ts (cuts line ws), length-map ws (cut line), length-map (spans line) (cut line))
-
-  step : at < length line → spans_from from at (drop at line) ≡ cond (parting (get_or line at 0)) (closed from at ++ spans_from (at + 1) (at + 1) (drop (at + 1) line)) (spans_from from (at + 1) (drop (at + 1) line))
-  step l =
-      let n : suc at ≡ at + 1 = omega arith in
-      ap (spans_from from at) (drop_more line at 0 l) ∙ ap (λ k. cond (parting (get_or line at 0)) (closed from at ++ spans_from k k (drop (at + 1) line)) (spans_from from k (drop (at + 1) line))) n
-
-  parted : at < length line → parting (get_or line at 0) ≡ true → spans_from from at (drop at line) ≡ closed from at ++ spans_from (at + 1) (at + 1) (drop (at + 1) line)
-  parted l p = step l ∙ ap (λ b. cond b (closed from at ++ spans_from (at + 1) (at + 1) (drop (at + 1) line)) (spans_from from (at + 1) (drop (at + 1) line))) p
-
-  pub word_goes : at < length line → parting (get_or line at 0) ≡ false → Split line ts from (at + 1)
-  word_goes l p = record {
-    within = omega (arith, s.within);
-    rest = ap (λ us. ts ++ cuts line us) (sym (step l ∙ ap (λ b. cond b (closed from at ++ spans_from (at + 1) (at + 1) (drop (at + 1) line)) (spans_from from (at + 1) (drop (at + 1) line))) p)) ∙ s.rest;
-  }
-
-  pub word_ends : (ts' : List (List ℕ)) → at < length line → parting (get_or line at 0) ≡ true → ts' ≡ ts ++ cuts line (closed from at) → Split line ts' (at + 1) (at + 1)
-  word_ends ts' l p e = record { within = omega arith; rest = ap (λ x. x ++ cuts line (spans_from (at + 1) (at + 1) (drop (at + 1) line))) e ∙ more _ _ (parted l p) }
-
-  pub room : at < length line → parting (get_or line at 0) ≡ true → length (spans line) ≤ most_words → length ts + length (closed from at) ≤ most_words
-  room l p h = fewer _ _ (parted l p) h
-
-  ended : at ≡ length line → spans_from from at (drop at line) ≡ closed from (length line) ++ []
-  ended l = ap (spans_from from at) (drop_all at line (omega arith)) ∙ ap (closed from) l ∙ sym (append-nil (closed from (length line)))
-
-  pub room_last : at ≡ length line → length (spans line) ≤ most_words → length ts + length (closed from (length line)) ≤ most_words
-  room_last l h = fewer _ _ (ended l) h
-
-  pub all_split : at ≡ length line → ts ++ cuts line (closed from (length line)) ≡ cuts line (spans line)
-  all_split l = sym (append-nil (ts ++ cuts line (closed from (length line)))) ∙ more _ _ (ended l)
+pub all_parts : (line : List ℕ) → filter some (slice_split parting line) ≡ cuts line (spans line)
+all_parts line = parts line line 0 0 refl (first line)

@@ -1,24 +1,18 @@
 -- The line that is written for a call, and which calls are legal when.
-use Rattle.std.specs.Prelude.{◌≡◌, ℕ, ◌<◌, List, length, Option}
+use Rattle.std.specs.Prelude.{◌≡◌, ℕ, List, Option}
+use Rattle.std.specs.List.{Contains}
 use Rattle.forms.specs.declared.calls.Kind.{Kind}
 use Rattle.forms.specs.declared.calls.Call.{Call}
-use Rattle.forms.specs.declared.table.Form.{Form}
 use Rattle.forms.specs.Patterns.{pieces, Fits, fill}
-use Rattle.forms.specs.Table.{pattern_of, forms_of, form_at, form_of, values_of}
+use Rattle.forms.specs.Table.{pattern_of, forms_of, form_of, values_of}
 
 -- the line of a call
 abbrev pub written : Call → List ℕ
 written c = fill (pieces (pattern_of (form_of c))) (values_of c)
 
--- the form stands at this place among those that are legal then
-pub record LegalForm (opened : Option Kind) (f : Form) : Type 0 where
-  pub place : ℕ
-  pub within : place < length (forms_of opened)
-  pub here : form_at (forms_of opened) place ≡ f
-
 -- the call's form is legal then, and its numbers are such as the form takes
 pub record Allowed (opened : Option Kind) (c : Call) : Type 0 where
-  pub legal : LegalForm opened (form_of c)
+  pub legal : Contains (forms_of opened) (form_of c)
   pub fits : Fits (pieces (pattern_of (form_of c))) (values_of c)
 
 -- the line is that of a call which is legal then

@@ -2,10 +2,10 @@ pub mod Faults
 pub mod Patterns
 pub mod Numbers
 pub mod Writing
-pub mod Fields
 pub mod Table
 pub mod Calls
 pub mod Reading
 pub mod Laws
 pub mod Words
+pub mod Holds
 pub mod Text

@@ -1,5 +1,5 @@
 -- What the reader of one number answers.
-use Rattle.std.specs.Prelude.{◌≡◌, ℕ, suc, ◌+◌, ◌-◌, ◌*◌, ◌<◌, ◌≤◌, Bool, List, ◌∷◌, ◌++◌, length, drop, ℤ, pos, negsuc, slice_index, slice_index_or}
+use Rattle.std.specs.Prelude.{◌≡◌, ℕ, suc, ◌+◌, ◌-◌, ◌*◌, ◌<◌, ◌≤◌, Bool, ◌⊎◌, List, ◌∷◌, ◌++◌, length, drop, decimal, ℤ, pos, negsuc, slice_index, slice_index_or}
 use Rattle.std.specs.Fmt.{signed_decimal}
 use Rattle.forms.specs.Faults.{Fault}
 use Rattle.forms.specs.Patterns.{Piece, number, Suits, Lines, largest_amount}
@@ -33,6 +33,17 @@ pub record Took (limit : ℕ) (minus : Bool) (s : List ℕ) (z : ℤ) (s' : List
   pub suits : Suits limit minus z
   pub front : s ≡ signed_decimal z ++ s'
   pub stops : GoesOn limit z (first s') → ⊥
+
+-- the digits of n are in front of s, the first of them `least` or more; they are the longest number that is there, and s' is left
+pub record Counted (limit least : ℕ) (s : List ℕ) (n : ℕ) (s' : List ℕ) : Type 0 where
+  pub fits : n ≤ limit
+  pub front : s ≡ decimal n ++ s'
+  pub stops : Goes limit n (first s') → ⊥
+  pub leads : 48 < least → 0 < n
+
+-- no digit from `least` on is in front of s
+abbrev pub NoDigit : ℕ → List ℕ → Type 0
+NoDigit least s = (first s < least) ⊎ (58 ≤ first s)
 
 -- no number is in front of s, and the line fails at n whatever is to follow the number
 abbrev pub NoNumber : ℕ → Bool → List ℕ → ℕ → Type 0

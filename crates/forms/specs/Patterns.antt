@@ -1,6 +1,8 @@
 -- A pattern is text in which `#` stands for a count and `%` for an amount. A line of it has numbers in their place.
-use Rattle.std.specs.Prelude.{◌≡◌, ℕ, suc, ◌<◌, ◌≤◌, Bool, true, false, cond, ◌⊎◌, List, [], ◌∷◌, ◌++◌, map, ℤ, pos, negsuc, ◌==◌}
+use Rattle.std.specs.Prelude.{◌≡◌, ℕ, suc, ◌+◌, ◌*◌, ◌<◌, ◌≤◌, Bool, true, false, cond, ◌⊎◌, List, [], ◌∷◌, ◌++◌, map, ℤ, pos, negsuc, ◌==◌}
 use Rattle.std.specs.Fmt.{signed_decimal}
+use Rattle.std.proofs.Common.{refl, ap, inl, inr, arith}
+use Rattle.std.specs.Coded.{Unit-prop, ×_prop, le_prop}
 
 -- the largest number of 32 bits
 abbrev pub largest_count : ℕ
@@ -21,6 +23,10 @@ most_fields = 6
 -- a pattern has at most so many bytes
 abbrev pub longest_pattern : ℕ
 longest_pattern = 64
+
+-- a line has at most so many bytes: a number takes the place of one byte, and may have a minus
+abbrev pub longest_line : ℕ
+longest_line = longest_pattern + most_fields * most_digits
 
 -- one byte of text, or a number up to a limit, which may have a minus or not
 pub data Piece : Type 0 where
@@ -77,3 +83,17 @@ abbrev pub Sound : List Piece → Type 0
 Sound [] = Unit {0}
 Sound (text b ∷ ps) = Sound ps
 Sound (number limit minus ∷ ps) = Breaks ps × Sound ps
+
+-- either has one proof at most
+Breaks-prop : (ps : List Piece) → IsProp (Breaks ps)
+Breaks-prop [] x y = refl
+Breaks-prop (text b ∷ ps) (inl x) (inl y) = ap inl (le_prop x y)
+Breaks-prop (text b ∷ ps) (inl x) (inr y) = absurd (omega arith)
+Breaks-prop (text b ∷ ps) (inr x) (inl y) = absurd (omega arith)
+Breaks-prop (text b ∷ ps) (inr x) (inr y) = ap inr (le_prop x y)
+Breaks-prop (number limit minus ∷ ps) x y = absurd x
+
+pub Sound-prop : (ps : List Piece) → IsProp (Sound ps)
+Sound-prop [] = Unit-prop
+Sound-prop (text b ∷ ps) = Sound-prop ps
+Sound-prop (number limit minus ∷ ps) = ×_prop (Breaks-prop ps) (Sound-prop ps)

@@ -1,5 +1,5 @@
 -- What a line reads as, computed: the forms that are legal then are tried in turn, and a fault stands where the one that gets furthest fails.
-use Rattle.std.specs.Prelude.{ℕ, ◌+◌, ◌-◌, ◌*◌, max, Bool, false, cond, List, [], ◌∷◌, length, ℤ, pos, negsuc, Ok, Err, Option, Result, ◌==◌, nat_le, nat_lt}
+use Rattle.std.specs.Prelude.{ℕ, ◌+◌, ◌-◌, ◌*◌, max, Bool, cond, ◌&&◌, List, [], ◌∷◌, length, ℤ, pos, negsuc, Ok, Err, Option, Result, ◌==◌, nat_le, nat_lt}
 use Rattle.forms.specs.declared.calls.Kind.{Kind}
 use Rattle.forms.specs.declared.calls.Call.{Call}
 use Rattle.forms.specs.declared.table.Form.{Form}
@@ -8,11 +8,11 @@ use Rattle.forms.specs.Table.{pattern_of, forms_of, call_of}
 
 -- whether the byte is a digit from `least` on
 abbrev pub digit : ℕ → ℕ → Bool
-digit least b = cond (nat_le least b) (nat_lt b 58) false
+digit least b = nat_le least b && nat_lt b 58
 
 -- whether the byte is a digit that may follow those of v, in a number up to the limit
 abbrev pub goes : ℕ → ℕ → ℕ → Bool
-goes limit v b = cond (digit 48 b) (cond (nat_lt 0 v) (nat_le (10 * v + (b - 48)) limit) false) false
+goes limit v b = digit 48 b && (nat_lt 0 v && nat_le (10 * v + (b - 48)) limit)
 
 -- the number that goes on from v as far as it can, and what is left of s
 abbrev pub digits_of : ℕ → ℕ → List ℕ → ℕ × List ℕ
@@ -31,7 +31,7 @@ negative_of limit (b ∷ s) = cond (digit 49 b) (Ok (negsuc ((digits_of limit (b
 -- the minus, 45, is read where the number may have one
 abbrev pub number_of : ℕ → Bool → List ℕ → Result (ℤ × List ℕ) ℕ
 number_of limit minus [] = Err 0
-number_of limit minus (b ∷ s) = cond (cond minus (b == 45) false) (negative_of limit s) (unsigned_of limit (b ∷ s))
+number_of limit minus (b ∷ s) = cond (minus && b == 45) (negative_of limit s) (unsigned_of limit (b ∷ s))
 
 -- what follows a byte of text, and what follows a number z of k bytes
 abbrev pub after_text : Result (List ℤ) ℕ → Result (List ℤ) ℕ

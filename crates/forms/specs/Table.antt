@@ -2,7 +2,6 @@
 use Rattle.std.specs.Prelude.{ℕ, List, [], ◌∷◌, ◌++◌, ℤ, pos, Some, None, codes, Option, slice_index_or, unsigned_abs}
 use Rattle.forms.specs.declared.calls.Kind.{Kind}
 use Rattle.forms.specs.declared.calls.Kind.TheVariants as kind
-use Rattle.forms.specs.declared.calls.Layout.{Layout}
 use Rattle.forms.specs.declared.calls.Layout.TheVariants as layout
 use Rattle.forms.specs.declared.calls.Figures.{Figures}
 use Rattle.forms.specs.declared.calls.Figures.TheVariants as figures
@@ -13,39 +12,28 @@ use Rattle.forms.specs.declared.table.Form.TheVariants as form
 
 -- the text of each form
 abbrev pub pattern_of : Form → List ℕ
-pattern_of form.HouseGramsFlat = codes "(house # (kind g) (shelf flat # #))"
-pattern_of form.HouseGramsChain = codes "(house # (kind g) (shelf chain # #))"
-pattern_of form.HouseTraysFlat = codes "(house # (kind tl) (shelf flat # #))"
-pattern_of form.HouseTraysChain = codes "(house # (kind tl) (shelf chain # #))"
-pattern_of form.LayGrams = codes "(lay (min (g %)) (max (g %)) (now (g %)))"
-pattern_of form.LayTrays = codes "(lay (min (tl % #)) (max (tl % #)) (now (tl % #)))"
+pattern_of (form.House kind.Grams layout.Flat) = codes "(house # (kind g) (shelf flat # #))"
+pattern_of (form.House kind.Grams layout.Chain) = codes "(house # (kind g) (shelf chain # #))"
+pattern_of (form.House kind.Trays layout.Flat) = codes "(house # (kind tl) (shelf flat # #))"
+pattern_of (form.House kind.Trays layout.Chain) = codes "(house # (kind tl) (shelf chain # #))"
+pattern_of (form.Lay kind.Grams) = codes "(lay (min (g %)) (max (g %)) (now (g %)))"
+pattern_of (form.Lay kind.Trays) = codes "(lay (min (tl % #)) (max (tl % #)) (now (tl % #)))"
 pattern_of form.Report = codes "(report #)"
 
 -- the forms that are legal before the house opens, and then in its kind
 abbrev pub forms_of : Option Kind → List Form
-forms_of None = form.HouseGramsFlat ∷ form.HouseGramsChain ∷ form.HouseTraysFlat ∷ form.HouseTraysChain ∷ []
-forms_of (Some kind.Grams) = form.LayGrams ∷ form.Report ∷ []
-forms_of (Some kind.Trays) = form.LayTrays ∷ form.Report ∷ []
+forms_of None = form.House kind.Grams layout.Flat ∷ form.House kind.Grams layout.Chain ∷ form.House kind.Trays layout.Flat ∷ form.House kind.Trays layout.Chain ∷ []
+forms_of (Some k) = form.Lay k ∷ form.Report ∷ []
 
--- the form at a place of a list
-abbrev pub form_at : List Form → ℕ → Form
-form_at fs k = slice_index_or fs k form.HouseGramsFlat
+-- the kind of an amount
+abbrev pub kind_of : Figures → Kind
+kind_of (figures.Grams a) = kind.Grams
+kind_of (figures.Trays a b) = kind.Trays
 
--- the form of a house, and of a `lay` by its least amount
-abbrev pub house_form : Kind → Layout → Form
-house_form kind.Grams layout.Flat = form.HouseGramsFlat
-house_form kind.Grams layout.Chain = form.HouseGramsChain
-house_form kind.Trays layout.Flat = form.HouseTraysFlat
-house_form kind.Trays layout.Chain = form.HouseTraysChain
-
-abbrev pub lay_form : Figures → Form
-lay_form (figures.Grams a) = form.LayGrams
-lay_form (figures.Trays a b) = form.LayTrays
-
--- the form in which a call is written
+-- the form in which a call is written, that of a `lay` by its least amount
 abbrev pub form_of : Call → Form
-form_of (call.House h) = house_form h.kind h.layout
-form_of (call.Lay min max at) = lay_form min
+form_of (call.House h) = form.House h.kind h.layout
+form_of (call.Lay min max at) = form.Lay (kind_of min)
 form_of (call.Report bin) = form.Report
 
 -- the numbers of an amount
@@ -67,9 +55,6 @@ abbrev pub count_at : List ℤ → ℕ → ℕ
 count_at vs k = unsigned_abs (amount_at vs k)
 
 -- what the values from there on write
-abbrev pub house_of : Kind → Layout → List ℤ → Call
-house_of k l vs = call.House (record { house = count_at vs 0; kind = k; layout = l; bins = count_at vs 1; grants = count_at vs 2 })
-
 abbrev pub trays_at : List ℤ → ℕ → ℕ → Figures
 trays_at vs j k = figures.Trays (amount_at vs j) (count_at vs k)
 
@@ -78,10 +63,7 @@ grams_at vs k = figures.Grams (amount_at vs k)
 
 -- the call that a form writes with these values
 abbrev pub call_of : Form → List ℤ → Call
-call_of form.HouseGramsFlat vs = house_of kind.Grams layout.Flat vs
-call_of form.HouseGramsChain vs = house_of kind.Grams layout.Chain vs
-call_of form.HouseTraysFlat vs = house_of kind.Trays layout.Flat vs
-call_of form.HouseTraysChain vs = house_of kind.Trays layout.Chain vs
-call_of form.LayGrams vs = call.Lay (grams_at vs 0) (grams_at vs 1) (grams_at vs 2)
-call_of form.LayTrays vs = call.Lay (trays_at vs 0 1) (trays_at vs 2 3) (trays_at vs 4 5)
+call_of (form.House k l) vs = call.House (record { house = count_at vs 0; kind = k; layout = l; bins = count_at vs 1; grants = count_at vs 2 })
+call_of (form.Lay kind.Grams) vs = call.Lay (grams_at vs 0) (grams_at vs 1) (grams_at vs 2)
+call_of (form.Lay kind.Trays) vs = call.Lay (trays_at vs 0 1) (trays_at vs 2 3) (trays_at vs 4 5)
 call_of form.Report vs = call.Report (count_at vs 0)

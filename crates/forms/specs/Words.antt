@@ -1,7 +1,6 @@
 -- The words of a line: its longest runs of bytes that are neither brackets nor spaces.
-use Rattle.std.specs.Prelude.{◌≡◌, ℕ, suc, ◌-◌, ◌<◌, ◌≤◌, min, Bool, true, false, cond, ◌⊎◌, List, [], ◌∷◌, ◌++◌, map, length, take, ◌==◌, nat_lt, slice_index}
+use Rattle.std.specs.Prelude.{◌≡◌, ℕ, suc, ◌-◌, ◌<◌, ◌≤◌, Bool, true, false, cond, ◌⊎◌, List, [], ◌∷◌, ◌++◌, map, length, ◌==◌, nat_lt, slice_index}
 use Rattle.std.specs.List.{between}
-use Rattle.forms.specs.declared.split.Words.{Words}
 
 -- a legal line has at most so many words
 abbrev pub most_words : ℕ
@@ -64,16 +63,3 @@ pub record Runs (line : List ℕ) : Type 0 where
   pub words : AllWords line (spans line)
   pub order : Ascends 0 (spans line)
   pub whole : (i : ℕ) → i < length line → parting (slice_index line i) ≡ false → Covers i (spans line)
-
--- how many words are held
-abbrev pub held : Words → ℕ
-held w = min w.len most_words
-
--- the bytes of each of them
-abbrev pub texts : Words → List (List ℕ)
-texts w = map (λ p. p.now) (take w.len w.parts)
-
--- the words are those of the line, each that part of it
-pub record Holds (w : Words) (line : List ℕ) : Type 0 where
-  pub many : held w ≡ length (spans line)
-  pub each : texts w ≡ cuts line (spans line)

@@ -1,9 +1,5 @@
 -- What a writer leaves in a buffer.
-use Rattle.std.specs.Prelude.{◌≡◌, ℕ, ◌+◌, ◌<◌, ◌≤◌, List, ◌++◌, length, take, drop}
-
--- the buffer with w written at `at`
-abbrev pub put : List ℕ → ℕ → List ℕ → List ℕ
-put out at w = take at out ++ (w ++ drop (at + length w) out)
+use Rattle.std.specs.Prelude.{◌≡◌, ℕ, ◌<◌, ◌≤◌, List, ◌++◌, length, drop}
 
 -- the line of n bytes stands in front, and the rest is as it was
 abbrev pub Wrote : List ℕ → List ℕ → ℕ → List ℕ → Type 0

@@ -2,15 +2,15 @@
 ghost use Rattle.std.specs.Prelude.{◌≡◌, IfOk, Ok, Err, MatchResult};
 ghost use Rattle.forms.specs.Calls.{Reads, Legal};
 ghost use Rattle.forms.specs.Faults.{Fault};
+ghost use Rattle.forms.specs.Holds.{Holds};
 ghost use Rattle.forms.specs.Laws.{OneLine, OneCall, FaultPlace};
 ghost use Rattle.forms.specs.Reading.{read_of};
-ghost use Rattle.forms.specs.Words.{Holds, Runs};
+ghost use Rattle.forms.specs.Words.{Runs};
 
 use super::Unreadable;
 use super::calls::{Call, Kind};
-use super::scan::scan;
-use super::split::{Words, split};
-use super::table::{call_of, forms, pattern};
+use super::split::Words;
+use super::table::forms;
 
 // A call, and the words of its line.
 #[derive(Clone, Copy)]
@@ -25,9 +25,9 @@ fn call_in(opened: Option<Kind>, line: &[u8]) -> Result<Call, Unreadable>
 {
     let mut fault = Unreadable { place: 0 };
     for form in forms(opened) {
-        match scan(pattern(*form), line) {
-            Ok(fields) => return Ok(call_of(*form, &fields)),
-            Err(e) => fault = fault.further(e),
+        match form.pattern().scan(line) {
+            Ok(numbers) => return Ok(form.call(&numbers)),
+            Err(e) => fault = fault.max(e),
         }
     }
     Err(fault)
@@ -45,6 +45,6 @@ pub fn read<'a>(opened: Option<Kind>, line: &'a [u8]) -> Result<Reading<'a>, Unr
     let call = call_in(opened, line)?;
     Ok(Reading {
         call,
-        words: split(line),
+        words: Words::new(line),
     })
 }

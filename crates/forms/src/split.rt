@@ -1,91 +1,56 @@
 // A line split into its words.
-ghost use Rattle.std.specs.Prelude.{◌≡◌, ◌+◌, ◌<◌, ◌≤◌, [], ◌++◌, length, MatchOption, slice_index_or};
-ghost use Rattle.forms.specs.Words.{most_words, parting, closed, cuts, spans, held, texts, Holds};
-
-// No form has more words.
-const MOST_WORDS: usize = 13;
+ghost use Rattle.std.specs.Prelude.{◌≡◌, ◌≤◌, length, slice_get, ◌==◌};
+ghost use Rattle.std.specs.Option.{option_map};
+ghost use Rattle.forms.specs.Words.{most_words, parting, spans};
 
 // The words of a line, in order, each that very part of it.
 #[derive(Clone, Copy)]
 pub struct Words<'a> {
-    parts: [&'a [u8]; MOST_WORDS],
-    len: usize,
+    line: &'a [u8],
+    ghost few: { length (spans line.now) ≤ most_words },
 }
 
 // Whether the byte parts two words.
 fn is_parting(b: u8) -> bool
     ensures { result ≡ parting b }
 {
-    b == b' ' || b == b'(' || b == b')'
+    matches!(b, b' ' | b'(' | b')')
 }
 
 impl<'a> Words<'a> {
-    fn new() -> Words<'a>
-        ensures { texts result ≡ [] }
+    ghost use Rattle.forms.specs.Holds.{texts, Holds};
+
+    pub(crate) fn new(line: &'a [u8]) -> Words<'a>
+        requires { length (spans line.now) ≤ most_words }
+        ensures { Holds result line.now }
     {
-        Words {
-            parts: [b""; MOST_WORDS],
-            len: 0,
-        }
+        Words { line }
     }
 
-    // How many words there are.
+    // How many words there are. The chain stands here and in `get`, since none can be returned by type.
     pub fn len(&self) -> usize
-        ensures { result ≡ held self.now }
+        ensures count { result ≡ length (texts self.now) }
+        ensures few { result ≤ most_words }
     {
-        if self.len < MOST_WORDS {
-            self.len
-        } else {
-            MOST_WORDS
-        }
+        self.line
+            .split(|b| is_parting(*b))
+            .filter(|word| !word.is_empty())
+            .count()
     }
 
-    fn part(&self, i: usize) -> &'a [u8]
-        requires { i < held self.now }
-        ensures { result.now ≡ slice_index_or (texts self.now) i [] }
+    pub fn is_empty(&self) -> bool
+        ensures { result ≡ (length (texts self.now) == 0) }
     {
-        self.parts[i]
+        self.len() == 0
     }
 
     // The word at `i`, from 0.
     pub fn get(&self, i: usize) -> Option<&'a [u8]>
-        ensures { MatchOption result (held self.now ≤ i) (λ w. (i < held self.now) × (w.now ≡ slice_index_or (texts self.now) i [])) }
+        ensures { option_map (λ word. word.now) result ≡ slice_get (texts self.now) i }
     {
-        if i < self.len() {
-            Some(self.part(i))
-        } else {
-            None
-        }
+        self.line
+            .split(|b| is_parting(*b))
+            .filter(|word| !word.is_empty())
+            .nth(i)
     }
-
-    // Adds the word between two places, unless it is empty.
-    fn close(&mut self, line: &'a [u8], from: usize, to: usize)
-        requires within { (from ≤ to) × (to ≤ length line.now) }
-        requires room { length (texts self.old) + length (closed from to) ≤ most_words }
-        ensures many { held self.new ≡ length (texts self.new) }
-        ensures each { texts self.new ≡ texts self.old ++ cuts line.now (closed from to) }
-    {
-        if from < to {
-            let at = self.len;
-            self.parts[at] = &line[from..to];
-            self.len = at + 1;
-        }
-    }
-}
-
-// The words of the line.
-pub(crate) fn split<'a>(line: &'a [u8]) -> Words<'a>
-    requires { length (spans line.now) ≤ most_words }
-    ensures { Holds result line.now }
-{
-    let mut words = Words::new();
-    let mut from = 0;
-    for at in 0..line.len() {
-        if is_parting(line[at]) {
-            words.close(line, from, at);
-            from = at + 1;
-        }
-    }
-    words.close(line, from, line.len());
-    words
 }

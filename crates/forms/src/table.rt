@@ -1,167 +1,163 @@
 // The forms: the pattern of each, when it is legal, and the call that it writes. Each table here has its like in specs/Table.antt.
-ghost use Rattle.std.specs.Prelude.{◌≡◌, ◌+◌, ◌≤◌, ◌++◌};
-ghost use Rattle.forms.specs.Fields.{values_in};
-ghost use Rattle.forms.specs.Patterns.{pieces, Fits, most_fields};
-ghost use Rattle.forms.specs.Table.{pattern_of, forms_of, form_of, figures_of, values_of, call_of, house_form, lay_form, house_of};
+ghost use Rattle.std.specs.Prelude.{◌≡◌, ◌+◌, ◌≤◌, false, ◌++◌, length, pos};
+ghost use Rattle.forms.specs.Patterns.{pieces, Suits, Fits, largest_count, most_fields};
+ghost use Rattle.forms.specs.Table.{pattern_of, forms_of, form_of, kind_of, figures_of, values_of, call_of};
 
 use super::calls::{Call, Figures, HouseForm, Kind, Layout};
 use super::fields::Fields;
+use super::pattern::Pattern;
+use arrayvec::ArrayVec;
 
-#[derive(Clone, Copy, PartialEq)]
+// How a line of a call is laid out.
+#[derive(Clone, Copy, PartialEq, Eq)]
 pub enum Form {
-    HouseGramsFlat,
-    HouseGramsChain,
-    HouseTraysFlat,
-    HouseTraysChain,
-    LayGrams,
-    LayTrays,
+    House(Kind, Layout),
+    Lay(Kind),
     Report,
 }
 
-pub(crate) fn pattern(form: Form) -> &'static [u8]
-    ensures { result.now ≡ pattern_of form }
-{
-    match form {
-        Form::HouseGramsFlat => b"(house # (kind g) (shelf flat # #))",
-        Form::HouseGramsChain => b"(house # (kind g) (shelf chain # #))",
-        Form::HouseTraysFlat => b"(house # (kind tl) (shelf flat # #))",
-        Form::HouseTraysChain => b"(house # (kind tl) (shelf chain # #))",
-        Form::LayGrams => b"(lay (min (g %)) (max (g %)) (now (g %)))",
-        Form::LayTrays => b"(lay (min (tl % #)) (max (tl % #)) (now (tl % #)))",
-        Form::Report => b"(report #)",
-    }
-}
-
 // The forms that are legal before the house opens, and then in its kind.
+// An arm for each kind, since a slice made of a variable is not static.
 pub(crate) fn forms(opened: Option<Kind>) -> &'static [Form]
     ensures { result.now ≡ forms_of opened }
 {
     match opened {
         None => &[
-            Form::HouseGramsFlat,
-            Form::HouseGramsChain,
-            Form::HouseTraysFlat,
-            Form::HouseTraysChain,
+            Form::House(Kind::Grams, Layout::Flat),
+            Form::House(Kind::Grams, Layout::Chain),
+            Form::House(Kind::Trays, Layout::Flat),
+            Form::House(Kind::Trays, Layout::Chain),
         ],
-        Some(Kind::Grams) => &[Form::LayGrams, Form::Report],
-        Some(Kind::Trays) => &[Form::LayTrays, Form::Report],
+        Some(Kind::Grams) => &[Form::Lay(Kind::Grams), Form::Report],
+        Some(Kind::Trays) => &[Form::Lay(Kind::Trays), Form::Report],
     }
 }
 
-fn house_form(kind: Kind, layout: Layout) -> Form
-    ensures { result ≡ house_form kind layout }
+// The count that a number is. The cast is proved to lose nothing.
+fn count(number: i64) -> u32
+    requires { Suits largest_count false number }
+    ensures { pos result ≡ number }
 {
-    match (kind, layout) {
-        (Kind::Grams, Layout::Flat) => Form::HouseGramsFlat,
-        (Kind::Grams, Layout::Chain) => Form::HouseGramsChain,
-        (Kind::Trays, Layout::Flat) => Form::HouseTraysFlat,
-        (Kind::Trays, Layout::Chain) => Form::HouseTraysChain,
-    }
+    number as u32
 }
 
-fn lay_form(min: Figures) -> Form
-    ensures { result ≡ lay_form min }
-{
-    match min {
-        Figures::Grams(_) => Form::LayGrams,
-        Figures::Trays { .. } => Form::LayTrays,
+impl Form {
+    pub(crate) fn pattern(self) -> Pattern
+        ensures { result.bytes.now ≡ pattern_of self }
+    {
+        let bytes: &'static [u8] = match self {
+            Form::House(Kind::Grams, Layout::Flat) => b"(house # (kind g) (shelf flat # #))",
+            Form::House(Kind::Grams, Layout::Chain) => b"(house # (kind g) (shelf chain # #))",
+            Form::House(Kind::Trays, Layout::Flat) => b"(house # (kind tl) (shelf flat # #))",
+            Form::House(Kind::Trays, Layout::Chain) => b"(house # (kind tl) (shelf chain # #))",
+            Form::Lay(Kind::Grams) => b"(lay (min (g %)) (max (g %)) (now (g %)))",
+            Form::Lay(Kind::Trays) => b"(lay (min (tl % #)) (max (tl % #)) (now (tl % #)))",
+            Form::Report => b"(report #)",
+        };
+        Pattern { bytes }
     }
-}
 
-// The form in which a call is written. That of a `lay` goes by its least amount.
-pub(crate) fn form_of(call: &Call) -> Form
-    ensures { result ≡ form_of call.now }
-{
-    match call {
-        Call::House(house) => house_form(house.kind, house.layout),
-        Call::Lay { min, .. } => lay_form(*min),
-        Call::Report { .. } => Form::Report,
-    }
-}
-
-fn push_figures(fields: &mut Fields, figures: Figures)
-    requires { fields.old.len + 2 ≤ most_fields }
-    ensures values { values_in fields.new ≡ values_in fields.old ++ figures_of figures }
-    ensures len { fields.new.len ≤ fields.old.len + 2 }
-{
-    match figures {
-        Figures::Grams(grams) => fields.push(grams),
-        Figures::Trays { trays, loose } => {
-            fields.push(trays);
-            fields.push(i64::from(loose));
+    // The call that the form writes with these numbers.
+    pub(crate) fn call(self, numbers: &[i64]) -> Call
+        requires { Fits (pieces (pattern_of self)) numbers.now }
+        ensures { result ≡ call_of self numbers.now }
+    {
+        match (self, numbers) {
+            (Form::House(kind, layout), &[house, bins, grants]) => Call::House(HouseForm {
+                house: count(house),
+                kind,
+                layout,
+                bins: count(bins),
+                grants: count(grants),
+            }),
+            (Form::Lay(Kind::Grams), &[min, max, level]) => Call::Lay {
+                min: Figures::Grams(min),
+                max: Figures::Grams(max),
+                now: Figures::Grams(level),
+            },
+            (Form::Lay(Kind::Trays), &[min, min_loose, max, max_loose, level, level_loose]) => {
+                Call::Lay {
+                    min: Figures::Trays {
+                        trays: min,
+                        loose: count(min_loose),
+                    },
+                    max: Figures::Trays {
+                        trays: max,
+                        loose: count(max_loose),
+                    },
+                    now: Figures::Trays {
+                        trays: level,
+                        loose: count(level_loose),
+                    },
+                }
+            }
+            (Form::Report, &[bin]) => Call::Report { bin: count(bin) },
+            _ => unreachable!(),
         }
     }
 }
 
-// The numbers of a call.
-pub(crate) fn fields_of(call: &Call) -> Fields
-    ensures { values_in result ≡ values_of call.now }
-{
-    let mut fields = Fields::new();
-    match call {
-        Call::House(house) => {
-            fields.push(i64::from(house.house));
-            fields.push(i64::from(house.bins));
-            fields.push(i64::from(house.grants));
+impl Figures {
+    // The kind of the amount.
+    fn kind(self) -> Kind
+        ensures { result ≡ kind_of self }
+    {
+        match self {
+            Figures::Grams(_) => Kind::Grams,
+            Figures::Trays { .. } => Kind::Trays,
         }
-        Call::Lay {
-            min,
-            max,
-            now: level,
-        } => {
-            push_figures(&mut fields, *min);
-            push_figures(&mut fields, *max);
-            push_figures(&mut fields, *level);
-        }
-        Call::Report { bin } => fields.push(i64::from(*bin)),
     }
-    fields
+
+    // Adds the numbers of the amount.
+    fn push_to(self, numbers: &mut Fields)
+        requires { length numbers.old.items + 2 ≤ most_fields }
+        ensures numbers { numbers.new.items ≡ numbers.old.items ++ figures_of self }
+        ensures len { length numbers.new.items ≤ length numbers.old.items + 2 }
+    {
+        match self {
+            Figures::Grams(grams) => numbers.push(grams),
+            Figures::Trays { trays, loose } => {
+                numbers.push(trays);
+                numbers.push(i64::from(loose));
+            }
+        }
+    }
 }
 
-fn house(kind: Kind, layout: Layout, fields: &Fields) -> Call
-    requires { Fits (pieces (pattern_of (house_form kind layout))) (values_in fields.now) }
-    ensures { result ≡ house_of kind layout (values_in fields.now) }
-{
-    Call::House(HouseForm {
-        house: fields.count(0),
-        kind,
-        layout,
-        bins: fields.count(1),
-        grants: fields.count(2),
-    })
-}
+impl Call {
+    // The form in which the call is written. That of a `lay` goes by its least amount.
+    pub(crate) fn form(&self) -> Form
+        ensures { result ≡ form_of self.now }
+    {
+        match self {
+            Call::House(house) => Form::House(house.kind, house.layout),
+            Call::Lay { min, .. } => Form::Lay(min.kind()),
+            Call::Report { .. } => Form::Report,
+        }
+    }
 
-// The call that a form writes with these numbers.
-pub(crate) fn call_of(form: Form, fields: &Fields) -> Call
-    requires { Fits (pieces (pattern_of form)) (values_in fields.now) }
-    ensures { result ≡ call_of form (values_in fields.now) }
-{
-    match form {
-        Form::HouseGramsFlat => house(Kind::Grams, Layout::Flat, fields),
-        Form::HouseGramsChain => house(Kind::Grams, Layout::Chain, fields),
-        Form::HouseTraysFlat => house(Kind::Trays, Layout::Flat, fields),
-        Form::HouseTraysChain => house(Kind::Trays, Layout::Chain, fields),
-        Form::LayGrams => Call::Lay {
-            min: Figures::Grams(fields.amount(0)),
-            max: Figures::Grams(fields.amount(1)),
-            now: Figures::Grams(fields.amount(2)),
-        },
-        Form::LayTrays => Call::Lay {
-            min: Figures::Trays {
-                trays: fields.amount(0),
-                loose: fields.count(1),
-            },
-            max: Figures::Trays {
-                trays: fields.amount(2),
-                loose: fields.count(3),
-            },
-            now: Figures::Trays {
-                trays: fields.amount(4),
-                loose: fields.count(5),
-            },
-        },
-        Form::Report => Call::Report {
-            bin: fields.count(0),
-        },
+    // The numbers of the call, in written order.
+    pub(crate) fn numbers(&self) -> Fields
+        ensures { result.items ≡ values_of self.now }
+    {
+        let mut numbers = ArrayVec::new();
+        match self {
+            Call::House(house) => {
+                numbers.push(i64::from(house.house));
+                numbers.push(i64::from(house.bins));
+                numbers.push(i64::from(house.grants));
+            }
+            Call::Lay {
+                min,
+                max,
+                now: level,
+            } => {
+                min.push_to(&mut numbers);
+                max.push_to(&mut numbers);
+                level.push_to(&mut numbers);
+            }
+            Call::Report { bin } => numbers.push(i64::from(*bin)),
+        }
+        numbers
     }
 }

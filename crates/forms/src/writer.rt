@@ -1,63 +1,26 @@
 // Calls written to a buffer.
-ghost use Rattle.std.specs.Prelude.{◌≡◌, ◌<◌, true, false, length, MatchResult};
-ghost use Rattle.forms.specs.Calls.{written, Allowed, LegalForm};
-ghost use Rattle.forms.specs.Fields.{values_in};
+ghost use Rattle.std.specs.Prelude.{◌≡◌, ◌<◌, length, MatchResult};
+ghost use Rattle.forms.specs.Calls.{written, Allowed};
 ghost use Rattle.forms.specs.Laws.{ReadsBack};
-ghost use Rattle.forms.specs.Patterns.{Suits, pieces, Fits};
-ghost use Rattle.forms.specs.Writing.{Wrote};
+ghost use Rattle.forms.specs.Writing.{Wrote, NoRoom};
 
 use super::Unreadable;
 use super::calls::{Call, Kind};
-use super::fields::Fields;
-use super::print::print;
-use super::scan::field;
-use super::table::{Form, fields_of, form_of, forms, pattern};
+use super::table::forms;
 
-// Whether `z` is a number up to the limit.
-fn suits(z: i64, limit: u64, minus: bool) -> bool
-    ensures yes { result ≡ true → Suits limit minus z }
-    ensures not { result ≡ false → Suits limit minus z → ⊥ }
+// Writes the line to the front of `out`, and answers its length, or refuses where `out` is too short.
+fn print(line: &[u8], out: &mut [u8]) -> Result<usize, Unreadable>
+    ensures { MatchResult result (λ n. Wrote out.old line.now n out.new) (λ e. NoRoom out.old line.now e.place out.new) }
 {
-    if z < 0 && !minus {
-        return false;
+    if line.len() > out.len() {
+        return Err(Unreadable { place: 0 });
     }
-    z.unsigned_abs() <= limit
-}
-
-// Whether the numbers are such as the pattern takes.
-fn fit(pattern: &[u8], fields: &Fields) -> bool
-    ensures yes { result ≡ true → Fits (pieces pattern.now) (values_in fields.now) }
-    ensures not { result ≡ false → Fits (pieces pattern.now) (values_in fields.now) → ⊥ }
-{
-    let mut next = 0;
-    for p in pattern {
-        if let Some((limit, minus)) = field(*p) {
-            if next >= fields.len {
-                return false;
-            }
-            if !suits(fields.amount(next), limit, minus) {
-                return false;
-            }
-            next += 1;
-        }
-    }
-    next == fields.len
-}
-
-// Whether the form is legal then.
-fn legal(opened: Option<Kind>, form: Form) -> bool
-    ensures yes { result ≡ true → LegalForm opened form }
-    ensures not { result ≡ false → LegalForm opened form → ⊥ }
-{
-    for f in forms(opened) {
-        if *f == form {
-            return true;
-        }
-    }
-    false
+    out[..line.len()].copy_from_slice(line);
+    Ok(line.len())
 }
 
 // Writes the call to the front of `out` and answers its length, or refuses it at place 0 and leaves `out` as it was.
+#[tactic(auto, using(crate::proofs::Readings::reads_back))]
 pub fn write(opened: Option<Kind>, call: &Call, out: &mut [u8]) -> Result<usize, Unreadable>
     ensures cases { MatchResult result
         (λ n. Allowed opened call.now × Wrote out.old (written call.now) n out.new)
@@ -65,10 +28,13 @@ pub fn write(opened: Option<Kind>, call: &Call, out: &mut [u8]) -> Result<usize,
         × (Allowed opened call.now → length out.old < length (written call.now))) }
     ensures back { ReadsBack opened }
 {
-    let form = form_of(call);
-    let fields = fields_of(call);
-    if !legal(opened, form) || !fit(pattern(form), &fields) {
+    let form = call.form();
+    if !forms(opened).contains(&form) {
         return Err(Unreadable { place: 0 });
     }
-    print(pattern(form), &fields, out)
+    let line = form
+        .pattern()
+        .line(&call.numbers())
+        .ok_or(Unreadable { place: 0 })?;
+    print(&line, out)
 }

@@ -1,9 +1,0 @@
-use Rattle.std.proofs.Common.{◌≡◌, take, drop}
-use Rattle.forms.specs.Patterns.{pieces, fill}
-use Rattle.forms.specs.Writing.{put}
-use Rattle.forms.proofs.Along.{Along}
-use Rattle.forms.proofs.print.print.Given as goal
-
-abbrev pub invariant-loop-p : goal.invariant-loop-p
-invariant-loop-p l = Along (fill (pieces l.pattern) (take l.fields.len l.fields.values)) (drop l.p-index (pieces l.pattern)) (drop l.next (take l.fields.len l.fields.values)) l.at
-    × (l.out ≡ put l.initial.out 0 (take l.at (fill (pieces l.pattern) (take l.fields.len l.fields.values))))
