@@ -2,17 +2,15 @@
 #![tactic(auto)]
 
 use anyhow::anyhow;
-use house::{MOST_BYTES, OutOfMemory, run};
+use house::{MOST_BYTES, run};
 use std::io::Read;
 
 // One byte more than may be read shows that the input is too long.
 const READ: u64 = MOST_BYTES as u64 + 1;
 
 fn answer(rt: &HostRuntime, text: &[u8]) -> anyhow::Result<()> {
-    match run(rt.alloc(), text) {
-        Ok(out) => rt.print(out)?,
-        Err(OutOfMemory) => return Err(anyhow!("out of memory")),
-    }
+    let out = run(rt.alloc(), text).map_err(|_| anyhow!("out of memory"))?;
+    rt.print(out)?;
     Ok(())
 }
 

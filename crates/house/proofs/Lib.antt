@@ -1,4 +1,4 @@
 pub mod LineEnds
-pub mod Opens
 pub mod Serves
 pub mod Prints
+pub mod Refused

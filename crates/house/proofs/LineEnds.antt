@@ -1,13 +1,8 @@
 -- Where the first line of a text ends.
-use Rattle.std.proofs.Common.{◌≡◌, ℕ, zero, suc, ◌+◌, ◌-◌, ◌<◌, ◌≤◌, Bool, true, false, eqb, List, [], ◌∷◌, length, get_or, take, drop, refl, ap, ◌∙◌, add-one, arith, length-drop}
-use native.Mathlib.Nat.{sub-zero, sub_self}
+use Rattle.std.proofs.Common.{◌≡◌, ℕ, zero, suc, ◌+◌, ◌-◌, ◌<◌, Bool, true, false, eqb, List, [], ◌∷◌, length, get_or, take, drop, refl, ap, ◌∙◌, add-one, arith, length-drop}
 use Rattle.std.proofs.lemmas.List.{take_all}
 use Rattle.std.proofs.lemmas.Bool.{cond-true, cond-false, eqb-true, eq-eqb}
-use Rattle.house.specs.Lines.{in_front, lines_of}
-
--- no line ends before e
-abbrev pub Unended : List ℕ → ℕ → Type 0
-Unended text e = (k : ℕ) → k < e → get_or text k 0 ≡ 10 → ⊥
+use Rattle.house.specs.Lines.{in_front, lines_of, Unended}
 
 not_ten : (b : ℕ) (t : Bool) → eqb b 10 ≡ t → (b ≡ 10 → ⊥) → t ≡ false
 not_ten b true e n = absurd (n (eqb-true b 10 e))
@@ -36,17 +31,12 @@ unfolding lines_of
 none_of [] e = refl
 none_of (b ∷ text) e = absurd (omega arith)
 
--- the first line and what follows it, as the code cuts them
+-- what follows the first line, as the code cuts it
 pub first_line : (text : List ℕ) (e : ℕ) → e < length text → Unended text e → get_or text e 0 ≡ 10
-    → (lines_of text ≡ take (e - 0) text ∷ lines_of (take (length text - (e + 1)) (drop (e + 1) text))) × (length (take (length text - (e + 1)) (drop (e + 1) text)) < length text)
+    → lines_of text ≡ take e text ∷ lines_of (take (length text - (e + 1)) (drop (e + 1) text))
 first_line text e h n s =
-    let whole : take (length text - (e + 1)) (drop (e + 1) text) ≡ drop (e + 1) text = take_all (length text - (e + 1)) (drop (e + 1) text) (simp length-drop (omega arith)) in
-    (rw (whole, sub-zero, add-one) (ends_at text e h n s), rw whole (simp length-drop (omega arith)))
+    rw (take_all (length text - (e + 1)) (drop (e + 1) text) (simp length-drop (omega arith)), add-one) (ends_at text e h n s)
 
-pub only_line : (text : List ℕ) (e : ℕ) → eqb (length text) 0 ≡ false → length text ≤ e → Unended text e
-    → (lines_of text ≡ text ∷ lines_of (take (length text - length text) (drop (length text) text))) × (length (take (length text - length text) (drop (length text) text)) < length text)
+pub only_line : (text : List ℕ) → eqb (length text) 0 ≡ false → Unended text (length text) → lines_of text ≡ text ∷ lines_of []
 unfolding lines_of
-only_line text e f h n =
-    let some : 0 < length text = grind arith in
-    let gone : take (length text - length text) (drop (length text) text) ≡ [] = rw sub_self refl in
-    (rw gone (ends_last text some (λ k l. n k (omega arith))), rw gone some)
+only_line text f n = ends_last text (grind arith) n

@@ -1,7 +1,6 @@
 -- What is printed, line by line.
-use Rattle.std.proofs.Common.{◌≡◌, ℕ, List, [], ◌∷◌, ◌++◌, Ok, Err, Result, sym, ap, ◌∙◌, append_assoc, append-nil}
+use Rattle.std.proofs.Common.{◌≡◌, ℕ, List, [], ◌∷◌, ◌++◌, Ok, Result, sym, ap, ◌∙◌, append_assoc, append-nil}
 use Rattle.refusal.specs.declared.Refusal.{Refusal}
-use Rattle.refusal.specs.Table.{refusal_text}
 use Rattle.model.specs.Ledger.{State}
 use Rattle.forms.specs.declared.calls.Kind.{Kind}
 use Rattle.forms.specs.declared.calls.HouseForm.{HouseForm}
@@ -20,13 +19,6 @@ one-served k s s' line lines ls out out' text e f g =
 pub all_served : (k : Kind) (s : State) (ls : List (List ℕ)) (out : List ℕ) → ls ≡ [] → out ++ served k s ls ≡ out
 all_served k s ls out e = ap (λ (x : List (List ℕ)). out ++ served k s x) e ∙ append-nil out
 
--- a line opens no house
-pub none_opened : (why : Refusal) (line : List ℕ) (lines ls : List (List ℕ)) (out out' : List ℕ)
-    → ls ≡ line ∷ lines → Err why ≡ opening_of line → out' ≡ out ++ printed (refusal_text why) → out' ++ unopened lines ≡ out ++ unopened ls
-none_opened why line lines ls out out' e f g =
-    ap (λ (x : List ℕ). x ++ unopened lines) g ∙ (append_assoc out (printed (refusal_text why)) (unopened lines)
-    ∙ (ap (λ (x : Result HouseForm Refusal). out ++ on_opening x (unopened lines) lines) f ∙ ap (λ (x : List (List ℕ)). out ++ unopened x) (sym e)))
-
 -- a line opens a house
 pub one_opened : (h : HouseForm) (line : List ℕ) (lines ls : List (List ℕ)) (out out' : List ℕ)
     → ls ≡ line ∷ lines → Ok h ≡ opening_of line → out' ≡ out ++ printed (answer_text (Opened h.house))
@@ -34,6 +26,3 @@ pub one_opened : (h : HouseForm) (line : List ℕ) (lines ls : List (List ℕ)) 
 one_opened h line lines ls out out' e f g =
     ap (λ (x : List ℕ). x ++ served h.kind (ledger_of h) lines) g ∙ (append_assoc out (printed (answer_text (Opened h.house))) (served h.kind (ledger_of h) lines)
     ∙ (ap (λ (x : Result HouseForm Refusal). out ++ on_opening x (unopened lines) lines) f ∙ ap (λ (x : List (List ℕ)). out ++ unopened x) (sym e)))
-
-pub all_read : (ls : List (List ℕ)) (out : List ℕ) → ls ≡ [] → out ++ unopened ls ≡ out
-all_read ls out e = ap (λ (x : List (List ℕ)). out ++ unopened x) e ∙ append-nil out

@@ -1,29 +1,10 @@
-// What the runner answers to a call.
+// What the runner answers to a call that isn't refused.
 use forms::calls::Figures;
+use shelf::records::Bin;
 
-// The floor and the ceiling of a bin.
-#[derive(Clone, Copy)]
-pub struct Limits {
-    pub min: Figures,
-    pub max: Figures,
-}
-
-// The lowest, the expected and the highest that a bin can come to.
-#[derive(Clone, Copy)]
-pub struct Range {
-    pub inf: Figures,
-    pub val: Figures,
-    pub sup: Figures,
-}
-
-#[derive(Clone, Copy)]
+#[derive(Clone, Copy, Debug, PartialEq, Eq)]
 pub enum Answer {
     Opened(u32),
     Laid(u32),
-    Bin {
-        bin: u32,
-        limits: Limits,
-        range: Range,
-    },
-    Refused(u32),
+    Bin { bin: u32, figures: Bin<Figures> },
 }

@@ -12,26 +12,25 @@ use forms::calls::{Figures, Kind};
 use refusal::Refusal;
 
 // An amount that is made from outside numbers and written in them.
-pub trait Written: Amount + Clone + Default {
-    ghost kind: { Kind };
+// By methods: between types of other crates only a wrapper type could have `TryFrom` and `From`.
+// Each kind says its own, since their figures differ.
+pub trait Written: Amount + Default {
+    const KIND: Kind;
 
-    fn kind() -> Kind
-        ensures { result ≡ kind };
+    ghost KIND: { Kind };
 
     // The amount that the figures write; figures of another kind write none.
     fn make(figures: Figures) -> Result<Self, Refusal>
-        ensures { made Self.Amount.means result ≡ makes kind figures };
+        ensures { made Self.Amount.means result ≡ makes KIND figures };
 
     fn figures(self) -> Figures
-        ensures { result ≡ writes kind (Self.Amount.means self) };
+        ensures { result ≡ writes KIND (Self.Amount.means self) };
 }
 
 impl Written for Grams {
-    ghost kind = { kind.Grams };
+    const KIND: Kind = Kind::Grams;
 
-    fn kind() -> Kind {
-        Kind::Grams
-    }
+    ghost KIND = { kind.Grams };
 
     fn make(figures: Figures) -> Result<Grams, Refusal> {
         match figures {
@@ -46,11 +45,9 @@ impl Written for Grams {
 }
 
 impl Written for Trays {
-    ghost kind = { kind.Trays };
+    const KIND: Kind = Kind::Trays;
 
-    fn kind() -> Kind {
-        Kind::Trays
-    }
+    ghost KIND = { kind.Trays };
 
     fn make(figures: Figures) -> Result<Trays, Refusal> {
         match figures {

@@ -4,11 +4,9 @@
 mod answer;
 mod kind;
 mod lines;
-mod memory;
 mod opening;
 mod program;
 mod serving;
 mod text;
 
-pub use memory::OutOfMemory;
 pub use program::{MOST_BYTES, run};

@@ -10,13 +10,11 @@ use refusal::Refusal;
 fn is_built(layout: Layout) -> bool
     ensures { result ≡ built layout }
 {
-    match layout {
-        Layout::Flat => true,
-        Layout::Chain => false,
-    }
+    layout == Layout::Flat
 }
 
 // The house that the line opens: one on a fit shelf.
+#[tactic(auto, unfolding(crate::specs::Run::opening_of))]
 pub(crate) fn opening(line: &[u8]) -> Result<HouseForm, Refusal>
     ensures { result ≡ opening_of line.now }
 {
@@ -24,7 +22,7 @@ pub(crate) fn opening(line: &[u8]) -> Result<HouseForm, Refusal>
     let Call::House(form) = reading.call else {
         return Err(Refusal::Unreadable { place: 0 });
     };
-    if ledger::fits(form.bins as usize, form.grants as usize) & is_built(form.layout) {
+    if ledger::fits(form.bins as usize, form.grants as usize) && is_built(form.layout) {
         Ok(form)
     } else {
         Err(Refusal::UnfitShelf)

@@ -10,7 +10,7 @@ use crate::{Ledger, checks};
 use amount::Amount;
 use refusal::Refusal;
 use shelf::Shelf;
-use shelf::records::Bin;
+use shelf::records::{Bin, NewBin};
 
 impl<S: Shelf> Ledger<S> {
     // Opens a ledger in a house; on an unfit shelf it refuses every call.
@@ -28,13 +28,15 @@ impl<S: Shelf> Ledger<S> {
     }
 
     // Adds a bin with INF, VAL and SUP at its start, and answers its number.
-    pub fn lay(&mut self, min: S::Kind, max: S::Kind, start: S::Kind) -> Result<u32, Refusal>
-        ensures { Owed (state S.Kind.Amount.limit S.Shelf.contents self.old) (lay (S.Kind.Amount.means min) (S.Kind.Amount.means max) (S.Kind.Amount.means start)) (laid_by result) (state S.Kind.Amount.limit S.Shelf.contents self.new) }
+    #[tactic(auto, using(crate::proofs::Lay::lay_owed))]
+    pub fn lay(&mut self, bin: NewBin<S::Kind>) -> Result<u32, Refusal>
+        ensures { Owed (state S.Kind.Amount.limit S.Shelf.contents self.old) (lay (S.Kind.Amount.means bin.min) (S.Kind.Amount.means bin.max) (S.Kind.Amount.means bin.start)) (laid_by result) (state S.Kind.Amount.limit S.Shelf.contents self.new) }
     {
-        self.work_lay(min, max, start)
+        self.work_lay(bin)
     }
 
     // The five amounts of a bin.
+    #[tactic(auto, using(crate::proofs::Lay::report_owed, crate::proofs::Lay::report_refused, crate::proofs::Lay::shown_by_lem))]
     pub fn report(&self, bin: u32) -> Result<Bin<S::Kind>, Refusal>
         ensures { Owed (state S.Kind.Amount.limit S.Shelf.contents self.now) (report bin) (shown_by S.Kind.Amount.means result) (state S.Kind.Amount.limit S.Shelf.contents self.now) }
     {

@@ -1,17 +1,15 @@
-// What a ledger is asked, and what it says.
-use refusal::Refusal;
-use shelf::records::Bin;
+// What a ledger is asked, and what it says where it doesn't refuse.
+use shelf::records::{Bin, NewBin};
 
 // A call with what it needs.
-#[derive(Clone, Copy)]
+#[derive(Clone, Copy, Debug, PartialEq, Eq)]
 pub enum Request<A> {
-    Lay { min: A, max: A, start: A },
+    Lay(NewBin<A>),
     Report { bin: u32 },
 }
 
-#[derive(Clone, Copy)]
+#[derive(Clone, Copy, Debug, PartialEq, Eq)]
 pub enum Said<A> {
     Laid(u32),
     Shown(Bin<A>),
-    Refused(Refusal),
 }

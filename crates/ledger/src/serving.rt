@@ -6,21 +6,16 @@ ghost use Rattle.ledger.specs.Requests.{call_of, said_of};
 use crate::Ledger;
 use crate::requests::{Request, Said};
 use amount::Amount;
+use refusal::Refusal;
 use shelf::Shelf;
 
 impl<S: Shelf> Ledger<S> {
-    pub fn serve(&mut self, request: Request<S::Kind>) -> Said<S::Kind>
+    pub fn serve(&mut self, request: Request<S::Kind>) -> Result<Said<S::Kind>, Refusal>
         ensures { Owed (state S.Kind.Amount.limit S.Shelf.contents self.old) (call_of S.Kind.Amount.means request) (said_of S.Kind.Amount.means result) (state S.Kind.Amount.limit S.Shelf.contents self.new) }
     {
         match request {
-            Request::Lay { min, max, start } => match self.lay(min, max, start) {
-                Ok(bin) => Said::Laid(bin),
-                Err(why) => Said::Refused(why),
-            },
-            Request::Report { bin } => match self.report(bin) {
-                Ok(figures) => Said::Shown(figures),
-                Err(why) => Said::Refused(why),
-            },
+            Request::Lay(bin) => Ok(Said::Laid(self.lay(bin)?)),
+            Request::Report { bin } => Ok(Said::Shown(self.report(bin)?)),
         }
     }
 }

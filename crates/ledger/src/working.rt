@@ -7,33 +7,31 @@ use crate::{Ledger, checks, limits};
 use amount::Amount;
 use refusal::Refusal;
 use shelf::Shelf;
+use shelf::records::NewBin;
 
 impl<S: Shelf> Ledger<S> {
-    pub(crate) fn work_lay(
-        &mut self,
-        min: S::Kind,
-        max: S::Kind,
-        start: S::Kind,
-    ) -> Result<u32, Refusal>
-        ensures { (result, state S.Kind.Amount.limit S.Shelf.contents self.new) ≡ lay_of (state S.Kind.Amount.limit S.Shelf.contents self.old) (S.Kind.Amount.means min) (S.Kind.Amount.means max) (S.Kind.Amount.means start) }
+    #[tactic(auto, unfolding(shelf::specs::Contents::can_add, shelf::specs::Contents::after_add, shelf::specs::Contents::add_answer))]
+    pub(crate) fn work_lay(&mut self, bin: NewBin<S::Kind>) -> Result<u32, Refusal>
+        ensures { (result, state S.Kind.Amount.limit S.Shelf.contents self.new) ≡ lay_of (state S.Kind.Amount.limit S.Shelf.contents self.old) (S.Kind.Amount.means bin.min) (S.Kind.Amount.means bin.max) (S.Kind.Amount.means bin.start) }
     {
         if !self.fit {
             return Err(Refusal::UnfitShelf);
         }
-        if checks::are_bad(min, max, start) {
+        if checks::is_bad(bin) {
             return Err(Refusal::BadFigures);
         }
-        if checks::is_over(min) | checks::is_over(max) | checks::is_over(start) {
+        if checks::is_over(bin.min) || checks::is_over(bin.max) || checks::is_over(bin.start) {
             return Err(Refusal::OverLimit);
         }
         if self.last > 0 {
             return Err(Refusal::Trading);
         }
         let number = self.shelf.bin_count();
-        if (number >= self.shelf.bin_capacity()) | (number >= limits::MOST_BINS) {
+        if number >= limits::MOST_BINS {
             return Err(Refusal::BinsFull);
         }
-        let _ = self.shelf.add_bin(min, max, start);
+        // A full shelf is the one error that `add_bin` has. The cast is proved to lose nothing.
+        self.shelf.add_bin(bin).map_err(|_| Refusal::BinsFull)?;
         Ok(number as u32)
     }
 }

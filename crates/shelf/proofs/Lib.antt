@@ -1,5 +1,5 @@
-pub mod Laws
+pub mod Grants
+pub mod Places
 pub mod Lowest
+pub mod Bins
 pub mod Changes
-pub mod InPlace
-pub mod Cleared

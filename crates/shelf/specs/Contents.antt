@@ -3,10 +3,13 @@
 --   Contents   bins, grants, how many grants, and the two capacities
 --   bin_of, amount_at          what a question answers
 --   can_add, can_set, can_put  when a change is accepted
+--   add_answer, set_answer, put_answer  what a change answers
 --   after_add, after_set, after_put, after_take  what a change leaves
 --   Tells, Another             the lowest bin of a batch; whether another batch holds a grant in a bin
 --   Sound      what holds of every shelf
-use Rattle.std.specs.Prelude.{◌≡◌, ℕ, zero, suc, ◌+◌, ◌-◌, ◌<◌, ◌≤◌, Bool, true, false, cond, not, ◌&&◌, List, [], ◌∷◌, ◌++◌, length, ℤ, is_some, Some, None, Option, ◌==◌, ◌≢◌, nat_lt}
+use Rattle.std.specs.Prelude.{◌≡◌, ℕ, zero, suc, ◌+◌, ◌-◌, ◌<◌, ◌≤◌, Bool, true, false, cond, not, ◌&&◌, List, [], ◌∷◌, ◌++◌, length, ℤ, is_some, Some, None, Option, Ok, Err, Result, ◌==◌, ◌≢◌, nat_lt, slice_get}
+use Rattle.shelf.specs.declared.error.ShelfError.{ShelfError}
+use Rattle.shelf.specs.declared.error.ShelfError.TheVariants.{BinsFull, NoSuchBin, NoBinPlace, AlreadyGranted, GrantsFull}
 
 -- a bin by the numbers that its amounts mean: MIN, MAX, INF, VAL and SUP
 pub record Figures : Type 0 where
@@ -32,9 +35,7 @@ empty_contents m n = record { bins = []; grants = λ _ _. None; held = 0; bin_ca
 
 -- the bin numbered i
 abbrev pub nth : List Figures → ℕ → Option Figures
-nth [] i = None
-nth (x ∷ xs) zero = Some x
-nth (x ∷ xs) (suc i) = nth xs i
+nth bs i = slice_get bs i
 
 unfoldable pub bin_of : Contents → ℕ → Option Figures
 bin_of s i = nth s.bins i
@@ -50,6 +51,10 @@ with_bins s bs = record { bins = bs; grants = s.grants; held = s.held; bin_capac
 unfoldable pub can_add : Contents → Bool
 can_add s = nat_lt (length s.bins) s.bin_capacity
 
+-- BinsFull: every bin place is used
+unfoldable pub add_answer : Contents → Result Unit ShelfError
+add_answer s = cond (can_add s) (Ok tt) (Err BinsFull)
+
 -- the bin stands at the end
 unfoldable pub after_add : Contents → Figures → Contents
 after_add s b = cond (can_add s) (with_bins s (s.bins ++ b ∷ [])) s
@@ -57,6 +62,10 @@ after_add s b = cond (can_add s) (with_bins s (s.bins ++ b ∷ [])) s
 -- there is such a bin
 unfoldable pub can_set : Contents → ℕ → Bool
 can_set s i = nat_lt i (length s.bins)
+
+-- NoSuchBin: no bin has this number
+unfoldable pub set_answer : Contents → ℕ → Result Unit ShelfError
+set_answer s i = cond (can_set s i) (Ok tt) (Err NoSuchBin)
 
 -- the bin with INF, VAL and SUP set
 abbrev pub moved : ℤ → ℤ → ℤ → Figures → Figures
@@ -86,6 +95,16 @@ regrant f b k o c j = cond (b == c && k == j) o (f c j)
 -- the bin number is below the bin capacity, the batch holds nothing in it, and a grant place is free
 unfoldable pub can_put : Contents → ℕ → ℕ → Bool
 can_put s b k = nat_lt b s.bin_capacity && (not (is_some (s.grants b k)) && nat_lt s.held s.grant_capacity)
+
+-- the first that is wrong of these
+--   NoBinPlace      the bin number is at or above the bin capacity
+--   AlreadyGranted  the batch holds a grant in the bin
+--   GrantsFull      every grant place is used
+unfoldable pub put_answer : Contents → ℕ → ℕ → Result Unit ShelfError
+put_answer s b k =
+    cond (nat_lt b s.bin_capacity)
+    (cond (is_some (s.grants b k)) (Err AlreadyGranted) (cond (nat_lt s.held s.grant_capacity) (Ok tt) (Err GrantsFull)))
+    (Err NoBinPlace)
 
 unfoldable pub after_put : Contents → ℕ → ℕ → ℤ → Contents
 after_put s b k z = cond (can_put s b k) (with_grants s (regrant s.grants b k (Some z)) (s.held + 1)) s

@@ -1,7 +1,7 @@
 pub mod Contents
 pub mod Bins
+pub mod Errors
 pub mod Flat
 pub mod FlatMeaning
 pub mod Soundness
-pub mod OtherBatch
 pub mod Others

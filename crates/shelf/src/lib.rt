@@ -1,20 +1,24 @@
 // A shelf keeps bins and grants: what it means, and what each call makes of that.
 #![tactic(auto)]
 
-ghost use Rattle.std.specs.Prelude.{◌≡◌, ℕ, Bool, length, Decides};
+ghost use Rattle.std.specs.Prelude.{◌≡◌, ℕ, Bool, is_ok, length, Decides};
 ghost use Rattle.amount.specs.Range.{meant};
 ghost use Rattle.shelf.specs.Contents.{Contents, Sound, Another, Tells};
-ghost use Rattle.shelf.specs.Contents.{bin_of, fresh, can_add, after_add, can_set, after_set, can_put, after_put, amount_at, after_take};
-ghost use Rattle.shelf.specs.Bins.{figures_in};
+ghost use Rattle.shelf.specs.Contents.{bin_of, can_add, add_answer, after_add, can_set, set_answer, after_set};
+ghost use Rattle.shelf.specs.Contents.{can_put, put_answer, after_put, amount_at, after_take};
+ghost use Rattle.shelf.specs.Bins.{figures_in, new_figures};
 
-use crate::records::Bin;
+use crate::error::ShelfError;
+use crate::records::{Bin, NewBin, Range};
 use amount::Amount;
 
+pub mod error;
 pub mod flat;
 pub mod records;
 mod search;
 
 // Contents change only as an accepted change says, so a place that was freed can be used once more.
+// A grant's bin and batch stay two arguments: each caller has them from two places, the call's bin and the batch at work.
 pub trait Shelf {
     type Kind: Amount;
 
@@ -30,19 +34,22 @@ pub trait Shelf {
     fn bin(&self, bin: u32) -> Option<Bin<Self::Kind>>
         ensures { figures_in Self.Kind.Amount.means result ≡ bin_of (contents self.now) bin };
 
-    // Adds a bin at the end with INF, VAL and SUP at its start; false where every bin place is used.
-    fn add_bin(&mut self, min: Self::Kind, max: Self::Kind, start: Self::Kind) -> bool
-        ensures answer { result ≡ can_add (contents self.old) }
-        ensures after { contents self.new ≡ after_add (contents self.old) (fresh (Self.Kind.Amount.means min) (Self.Kind.Amount.means max) (Self.Kind.Amount.means start)) };
+    // Adds a bin at the end with INF, VAL and SUP at its start; BinsFull where every bin place is used.
+    fn add_bin(&mut self, bin: NewBin<Self::Kind>) -> Result<(), ShelfError>
+        ensures accepted { is_ok result ≡ can_add (contents self.old) }
+        ensures answer { result ≡ add_answer (contents self.old) }
+        ensures after { contents self.new ≡ after_add (contents self.old) (new_figures Self.Kind.Amount.means bin) };
 
-    // Sets INF, VAL and SUP of a bin; false where there is no such bin.
-    fn set_bin(&mut self, bin: u32, inf: Self::Kind, val: Self::Kind, sup: Self::Kind) -> bool
-        ensures answer { result ≡ can_set (contents self.old) bin }
-        ensures after { contents self.new ≡ after_set (contents self.old) bin (Self.Kind.Amount.means inf) (Self.Kind.Amount.means val) (Self.Kind.Amount.means sup) };
+    // Sets INF, VAL and SUP of a bin; NoSuchBin where there is none of the number.
+    fn set_bin(&mut self, bin: u32, range: Range<Self::Kind>) -> Result<(), ShelfError>
+        ensures accepted { is_ok result ≡ can_set (contents self.old) bin }
+        ensures answer { result ≡ set_answer (contents self.old) bin }
+        ensures after { contents self.new ≡ after_set (contents self.old) bin (Self.Kind.Amount.means range.inf) (Self.Kind.Amount.means range.val) (Self.Kind.Amount.means range.sup) };
 
-    // Puts a grant; false where the bin is past the capacity, the batch holds one there, or every grant place is used.
-    fn put(&mut self, bin: u32, batch: u32, amount: Self::Kind) -> bool
-        ensures answer { result ≡ can_put (contents self.old) bin batch }
+    // Puts a grant; NoBinPlace past the bin capacity, AlreadyGranted where the batch holds one there, then GrantsFull.
+    fn put(&mut self, bin: u32, batch: u32, amount: Self::Kind) -> Result<(), ShelfError>
+        ensures accepted { is_ok result ≡ can_put (contents self.old) bin batch }
+        ensures answer { result ≡ put_answer (contents self.old) bin batch }
         ensures after { contents self.new ≡ after_put (contents self.old) bin batch (Self.Kind.Amount.means amount) };
 
     fn find(&self, bin: u32, batch: u32) -> Option<Self::Kind>

@@ -5,7 +5,7 @@ use amount::{Amount, Counted};
 use refusal::Refusal;
 use std::test::Fail;
 
-// The number of a refusal, 0 where an amount was made.
+// The number of a refusal, 0 where an amount was made: one number for both cases keeps each line below a plain figure.
 fn refused<A: Drop>(made: Result<A, Refusal>) -> u32 {
     match made {
         Ok(_) => 0,

@@ -3,7 +3,8 @@ use forms::calls::{Call, Figures, Kind};
 use forms::{Unreadable, read, write};
 use std::test::Fail;
 
-// The place of a fault, or the length of the line and one more where it can be read.
+// The place of a fault, or the length of the line and one more where it can be read: one number for both cases keeps
+// each line below a plain figure.
 fn place(opened: Option<Kind>, line: &[u8]) -> usize {
     match read(opened, line) {
         Ok(_) => line.len().saturating_add(1),
@@ -50,9 +51,7 @@ fn faults_have_their_places(rt: HostRuntime) {
 
 #[test]
 fn words_are_parts_of_the_line(rt: HostRuntime) -> Result<(), Fail> {
-    let Ok(reading) = read(None, b"(house 7 (kind g) (shelf flat 2 64))") else {
-        return Err(Fail::new("unreadable"));
-    };
+    let reading = read(None, b"(house 7 (kind g) (shelf flat 2 64))")?;
     assert!(rt; reading.words.len() == 8);
     assert!(rt; reading.words.get(1).ok_or("no word")? == b"7".as_slice());
     assert!(rt; reading.words.get(5).ok_or("no word")? == b"flat".as_slice());

@@ -1,18 +1,14 @@
 // Whole runs, from the bytes read to the bytes printed.
-use house::{OutOfMemory, run};
-use std::alloc::{AllocError, Global};
+use house::run;
+use std::alloc::Global;
 use std::process::Abort;
 use std::test::Fail;
 
 // Whether a run on the text prints what is expected.
 fn prints(rt: &impl Abort, heap: Global, text: &[u8], expected: &str) -> Result<(), Fail> {
-    match run(heap, text) {
-        Ok(out) => {
-            assert!(rt; out.as_str() == expected);
-            Ok(())
-        },
-        Err(OutOfMemory) => Err(Fail::new("out of memory")),
-    }
+    let out = run(heap, text)?;
+    assert!(rt; out.as_str() == expected);
+    Ok(())
 }
 
 #[test]

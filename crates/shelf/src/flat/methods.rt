@@ -1,15 +1,16 @@
 // The flat shelf as a shelf.
-ghost use Rattle.std.specs.Prelude.{◌≡◌, ◌<◌, length, IfSome, slice_index_or};
-ghost use Rattle.shelf.specs.Flat.{hit, free, first_from};
-ghost use Rattle.shelf.specs.Contents.{empty_contents};
+ghost use Rattle.std.specs.Prelude.{◌≡◌, is_ok, length};
+ghost use Rattle.shelf.specs.Contents.{empty_contents, can_add, add_answer, after_add, can_set, set_answer, after_set};
+ghost use Rattle.shelf.specs.Bins.{new_figures};
 ghost use Rattle.shelf.specs.Soundness.{flat_sound};
 ghost use Rattle.shelf.specs.Others.{flat_others, flat_others_decided};
 ghost use Rattle.shelf.specs.FlatMeaning.{flat_meaning};
 
 use super::FlatShelf;
 use crate::Shelf;
-use crate::records::{Bin, Grant};
-use crate::search::{amount_in, another_in, clear, find_in, free_place, lowest_in, position};
+use crate::error::ShelfError;
+use crate::records::{Bin, Grant, NewBin, Range};
+use crate::search::{another_in, clear, free_place, lowest_in, position};
 use amount::Amount;
 
 impl<'a, A: Amount> FlatShelf<'a, A> {
@@ -25,31 +26,9 @@ impl<'a, A: Amount> FlatShelf<'a, A> {
             grants_used: 0,
         }
     }
-
-    // The place of the grant of the bin and the batch.
-    fn place_of(&self, bin: u32, batch: u32) -> Option<usize>
-        ensures first { result ≡ first_from (hit bin batch) 0 self.now.grants.now }
-        ensures within { IfSome result (λ i. i < length self.now.grants.now) }
-    {
-        position(&*self.grants, bin, batch)
-    }
-
-    fn place_free(&self) -> Option<usize>
-        ensures first { result ≡ first_from free 0 self.now.grants.now }
-        ensures within { IfSome result (λ i. i < length self.now.grants.now) }
-    {
-        free_place(&*self.grants)
-    }
 }
 
-// The bin numbered i.
-fn bin_at<A: Amount>(bins: &[Bin<A>], i: usize) -> Bin<A>
-    requires { i < length bins.now }
-    ensures { result ≡ slice_index_or bins.now i result }
-{
-    bins[i]
-}
-
+// Two methods repeat their clauses: the check cannot take them from the trait where a generic struct comes by value.
 impl<'a, A: Amount> Shelf for FlatShelf<'a, A> {
     type Kind = A;
 
@@ -61,76 +40,76 @@ impl<'a, A: Amount> Shelf for FlatShelf<'a, A> {
 
     ghost sound = { flat_sound A.Amount.means };
 
+    #[tactic(auto, using(crate::proofs::Bins::bin_read), unfolding(crate::specs::Contents::bin_of))]
     fn bin(&self, bin: u32) -> Option<Bin<A>> {
-        let i = bin as usize;
-        if i < self.bins_used {
-            Some(bin_at(&*self.bins, i))
-        } else {
-            None
-        }
+        self.bins[..self.bins_used].get(bin as usize).copied()
     }
 
-    fn add_bin(&mut self, min: A, max: A, start: A) -> bool {
-        let i = self.bins_used;
-        if i >= self.bins.len() {
-            return false;
+    #[tactic(auto, using(crate::proofs::Bins::bin_added), unfolding(crate::specs::Contents::can_add, crate::specs::Contents::add_answer, crate::specs::Contents::after_add))]
+    fn add_bin(&mut self, bin: NewBin<A>) -> Result<(), ShelfError>
+        ensures accepted { is_ok result ≡ can_add (flat_meaning A.Amount.means self.old) }
+        ensures answer { result ≡ add_answer (flat_meaning A.Amount.means self.old) }
+        ensures after { flat_meaning A.Amount.means self.new ≡ after_add (flat_meaning A.Amount.means self.old) (new_figures A.Amount.means bin) }
+    {
+        if self.bins_used >= self.bins.len() {
+            return Err(ShelfError::BinsFull);
         }
-        self.bins[i] = Bin::laid(min, max, start);
-        self.bins_used = i + 1;
-        true
+        self.bins[self.bins_used] = Bin::laid(bin);
+        self.bins_used += 1;
+        Ok(())
     }
 
-    fn set_bin(&mut self, bin: u32, inf: A, val: A, sup: A) -> bool {
-        let i = bin as usize;
-        if i >= self.bins_used {
-            return false;
-        }
-        let old = self.bins[i];
-        self.bins[i] = old.with_figures(inf, val, sup);
-        true
+    #[tactic(auto, using(crate::proofs::Bins::bin_set), unfolding(crate::specs::Contents::bin_of, crate::specs::Contents::can_set, crate::specs::Contents::set_answer, crate::specs::Contents::after_set))]
+    fn set_bin(&mut self, bin: u32, range: Range<A>) -> Result<(), ShelfError>
+        ensures accepted { is_ok result ≡ can_set (flat_meaning A.Amount.means self.old) bin }
+        ensures answer { result ≡ set_answer (flat_meaning A.Amount.means self.old) bin }
+        ensures after { flat_meaning A.Amount.means self.new ≡ after_set (flat_meaning A.Amount.means self.old) bin (A.Amount.means range.inf) (A.Amount.means range.val) (A.Amount.means range.sup) }
+    {
+        let old = self.bin(bin).ok_or(ShelfError::NoSuchBin)?;
+        self.bins[bin as usize] = old.with_range(range);
+        Ok(())
     }
 
-    fn put(&mut self, bin: u32, batch: u32, amount: A) -> bool {
+    #[tactic(auto, using(crate::proofs::Places::grant_put), unfolding(crate::specs::Contents::can_put, crate::specs::Contents::put_answer, crate::specs::Contents::after_put))]
+    fn put(&mut self, bin: u32, batch: u32, amount: A) -> Result<(), ShelfError> {
         if bin as usize >= self.bins.len() {
-            return false;
+            return Err(ShelfError::NoBinPlace);
         }
-        if self.place_of(bin, batch).is_some() {
-            return false;
+        let places = &mut *self.grants;
+        if position(places, bin, batch).is_some() {
+            return Err(ShelfError::AlreadyGranted);
         }
-        match self.place_free() {
-            Some(i) => {
-                self.grants[i] = Some(Grant { bin, batch, amount });
-                self.grants_used += 1;
-                true
-            }
-            None => false,
-        }
+        let place = free_place(places).ok_or(ShelfError::GrantsFull)?;
+        places[place] = Some(Grant { bin, batch, amount });
+        self.grants_used += 1;
+        Ok(())
     }
 
+    #[tactic(auto, using(crate::proofs::Places::not_found), unfolding(crate::specs::Contents::amount_at))]
     fn find(&self, bin: u32, batch: u32) -> Option<A> {
-        find_in(&*self.grants, bin, batch)
+        let place = position(self.grants, bin, batch)?;
+        self.grants[place].map(|grant| grant.amount)
     }
 
+    #[tactic(auto, using(crate::proofs::Places::grant_taken), unfolding(crate::specs::Contents::amount_at, crate::specs::Contents::after_take))]
     fn take(&mut self, bin: u32, batch: u32) -> Option<A> {
-        match self.place_of(bin, batch) {
-            Some(i) => {
-                let answer = amount_in(self.grants[i]);
-                self.grants[i] = None;
-                self.grants_used -= 1;
-                answer
-            }
-            None => None,
-        }
+        let places = &mut *self.grants;
+        let place = position(places, bin, batch)?;
+        let grant = places[place]?;
+        places[place] = None;
+        self.grants_used -= 1;
+        Some(grant.amount)
     }
 
     fn lowest_bin(&self, batch: u32) -> Option<u32> {
-        lowest_in(&*self.grants, batch)
+        lowest_in(self.grants, batch)
     }
 
     fn another_holds(&self, bin: u32, batch: u32) -> bool {
-        another_in(&*self.grants, bin, batch)
+        another_in(self.grants, bin, batch)
     }
 
+    #[tactic(auto, using(crate::proofs::Bins::bins_used))]
     fn bin_count(&self) -> usize {
         self.bins_used
     }
