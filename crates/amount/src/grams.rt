@@ -8,7 +8,7 @@ use crate::Counted;
 use crate::bounds::if_within;
 use refusal::Refusal;
 
-#[derive(Clone, Copy, Debug, PartialEq, Eq, PartialOrd, Ord, Hash)]
+#[derive(Clone, Copy, Debug, PartialEq, Eq, Hash)]
 pub struct Grams {
     grams: i64,
     ghost within: { inside (2 * gram_limit) grams ≡ true },

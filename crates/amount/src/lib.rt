@@ -24,7 +24,7 @@ pub trait Amount: Copy {
     fn opposite(self) -> Self
         ensures { means result ≡ neg_ℤ (means self) };
 
-    // No `PartialOrd`: it would ask each kind for an equality too, which nothing needs.
+    // A method: `PartialOrd` would need a law of its own that ties it to what is meant.
     fn less_than(self, other: Self) -> bool
         ensures { result ≡ int_lt (means self) (means other) };
 

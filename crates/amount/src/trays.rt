@@ -14,7 +14,7 @@ const TRAY: i64 = 24;
 // The most loose pieces beside full trays.
 const LOOSE: u32 = 23;
 
-#[derive(Clone, Copy, Debug, PartialEq, Eq, PartialOrd, Ord, Hash)]
+#[derive(Clone, Copy, Debug, PartialEq, Eq, Hash)]
 pub struct Trays {
     trays: i32,
     loose: u8,

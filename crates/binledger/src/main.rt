@@ -5,7 +5,7 @@ use anyhow::anyhow;
 use house::{MOST_BYTES, run};
 use std::io::Read;
 
-// One byte more than may be read shows that the input is too long.
+// One byte more than may be read shows that the input is too long. By `as`, since no `From` leads from `usize` to `u64`.
 const READ: u64 = MOST_BYTES as u64 + 1;
 
 fn answer(rt: &HostRuntime, text: &[u8]) -> anyhow::Result<()> {

@@ -10,7 +10,7 @@ use super::number::Bounds;
 use arrayvec::ArrayVec;
 use itoa::Buffer;
 
-// Numbers of up to 32 bits.
+// Numbers of up to 32 bits. By `as`, since a constant can't be made by `u64::from`.
 const COUNT: Bounds = Bounds {
     limit: u32::MAX as u64,
     minus: false,

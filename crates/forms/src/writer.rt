@@ -1,4 +1,5 @@
-// Calls written to a buffer.
+// Calls written to a buffer. What can't be written is refused at place 0, as the written forms have it: it has no line
+// in which a place could be told.
 ghost use Rattle.std.specs.Prelude.{◌≡◌, ◌<◌, length, MatchResult};
 ghost use Rattle.forms.specs.Calls.{written, Allowed};
 ghost use Rattle.forms.specs.Laws.{ReadsBack};

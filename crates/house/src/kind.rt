@@ -13,7 +13,8 @@ use refusal::Refusal;
 
 // An amount that is made from outside numbers and written in them.
 // By methods: between types of other crates only a wrapper type could have `TryFrom` and `From`.
-// Each kind says its own, since their figures differ.
+// Each kind says its own, since their figures differ. No line of a house reads as figures of the other kind, so the
+// place in their refusal is never told.
 pub trait Written: Amount + Default {
     const KIND: Kind;
 

@@ -13,7 +13,8 @@ fn is_built(layout: Layout) -> bool
     layout == Layout::Flat
 }
 
-// The house that the line opens: one on a fit shelf.
+// The house that the line opens: one on a fit shelf. No other call is read before a house is open, so the place in its
+// refusal is never told. Capacities go by `as usize`, since no `From` leads from `u32` to `usize`.
 #[tactic(auto, unfolding(crate::specs::Run::opening_of))]
 pub(crate) fn opening(line: &[u8]) -> Result<HouseForm, Refusal>
     ensures { result ≡ opening_of line.now }

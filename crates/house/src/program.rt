@@ -66,7 +66,7 @@ fn work<K: Written, S: Shelf<Kind = K> + Drop>(
     serve_lines(&mut ledger, lines, out)
 }
 
-// The same on a flat shelf with memory of its own.
+// The same on a flat shelf with memory of its own. No `From` leads from `u32` to `usize`, so capacities go by `as`.
 fn work_flat<K: Written>(
     heap: Global,
     form: HouseForm,

@@ -17,7 +17,8 @@ use refusal::Refusal;
 use shelf::Shelf;
 use shelf::records::{Bin, NewBin};
 
-// What a call asks of the ledger; its amounts are made in written order.
+// What a call asks of the ledger; its amounts are made in written order. No line of an open house reads as the call
+// that opens one, so the place in its refusal is never told.
 fn request<K: Written>(call: Call) -> Result<Request<K>, Refusal>
     ensures { asked K.Amount.means result ≡ request_of K.Written.KIND call }
 {
@@ -32,7 +33,7 @@ fn request<K: Written>(call: Call) -> Result<Request<K>, Refusal>
     }
 }
 
-// The bin that a call names, and 0 of one that names none: no answer to such a call tells it.
+// The bin that a call names, and 0 of one that names none: the text of an answer takes a bin for every call.
 fn bin_in(call: Call) -> u32
     ensures { result ≡ bin_in call }
 {

@@ -28,7 +28,7 @@ impl fmt::Display for Full {
 impl Error for Full {}
 
 // The numbers, in a clause the list of them.
-#[derive(Debug, Default, Drop)]
+#[derive(Debug, Drop)]
 pub struct Queue {
     numbers: ArrayVec<u32, CAPACITY>,
 }
@@ -38,6 +38,7 @@ impl Model for Queue {
 
     ghost view = { λ q. q.numbers.items };
 
+    // A caller sees the list and not this fact, so the calls that leave a list say it too.
     ghost invariant = { λ q. length q.numbers.items ≤ queue_capacity };
 }
 
@@ -92,5 +93,14 @@ impl Queue {
         ensures { result ≡ is_in number self.now }
     {
         self.numbers.contains(&number)
+    }
+}
+
+// By hand, so that it says what it makes.
+impl Default for Queue {
+    ghost is_default = { λ q. q ≡ [] };
+
+    fn default() -> Queue {
+        Queue::new()
     }
 }

@@ -7,7 +7,7 @@ use crate::records::{Bin, Grant};
 pub mod methods;
 
 // Memory lent by the caller, with no heap: a list keeps its length, so the number of used places stands beside it.
-// The number of grants is kept, too, so that asking for it walks no list.
+// `grants_used` is the count that a shelf's meaning has beside its grants.
 #[derive(Drop)]
 pub struct FlatShelf<'a, A> {
     bins: &'a mut [Bin<A>],

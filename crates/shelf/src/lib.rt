@@ -18,7 +18,8 @@ pub mod records;
 mod search;
 
 // Contents change only as an accepted change says, so a place that was freed can be used once more.
-// A grant's bin and batch stay two arguments: each caller has them from two places, the call's bin and the batch at work.
+// A grant's bin and batch stay two arguments: a call names the bin and the batch is the one at work, so a pair would
+// be made for each call only to be taken apart.
 pub trait Shelf {
     type Kind: Amount;
 

@@ -29,6 +29,7 @@ impl<'a, A: Amount> FlatShelf<'a, A> {
 }
 
 // Two methods repeat their clauses: the check cannot take them from the trait where a generic struct comes by value.
+// Places are found by `as usize`, since no `From` leads from `u32` to `usize`.
 impl<'a, A: Amount> Shelf for FlatShelf<'a, A> {
     type Kind = A;
 
