@@ -6,7 +6,11 @@ ghost use Rattle.amount.specs.Range.{inside, if_inside};
 pub(crate) fn lies_within(z: i64, n: u64) -> bool
     ensures { result ≡ inside n z }
 {
-    z.unsigned_abs() <= n
+    // By two comparisons, from which the compiler knows where z lies. Every z lies within an n past 63 bits.
+    match i64::try_from(n) {
+        Ok(n) => -n <= z && z <= n,
+        Err(_) => true,
+    }
 }
 
 // The number z where it lies from -n to n.

@@ -1,7 +1,7 @@
 // Whole grams: they mean themselves.
-ghost use Rattle.std.specs.Prelude.{◌≡◌, ◌*◌, true, pos};
+ghost use Rattle.std.specs.Prelude.{◌≡◌, pos};
 ghost use Rattle.amount.specs.Limits.{gram_limit};
-ghost use Rattle.amount.specs.Range.{inside, made};
+ghost use Rattle.amount.specs.Range.{made};
 ghost use Rattle.std.proofs.Common.{rules};
 
 use crate::Counted;
@@ -11,7 +11,6 @@ use refusal::Refusal;
 #[derive(Clone, Copy, Debug, PartialEq, Eq, Hash)]
 pub struct Grams {
     grams: i64,
-    ghost within: { inside (2 * gram_limit) grams ≡ true },
 }
 
 impl Grams {
@@ -26,11 +25,9 @@ impl Grams {
     }
 }
 
-// By hand, since no derive shows the fact that a ghost field states.
+// By hand, so that it says what it makes.
 impl Default for Grams {
-    ghost use Rattle.amount.specs.Grams.{grams};
-
-    ghost is_default = { λ x. grams x ≡ pos 0 };
+    ghost is_default = { λ x. x.grams ≡ pos 0 };
 
     fn default() -> Grams {
         Grams { grams: 0 }
@@ -52,8 +49,9 @@ impl Counted for Grams {
 
     const LIMIT: u64 = 1_000_000_000_000;
 
+    // A figure outside -2L to 2L means zero.
     fn number(self) -> i64 {
-        self.grams
+        if_within(self.grams, 2 * Grams::LIMIT).unwrap_or(0)
     }
 
     fn of_number(n: i64) -> Option<Grams> {

@@ -1,6 +1,6 @@
 // Full trays and loose pieces: they mean their pieces.
-ghost use Rattle.std.specs.Prelude.{◌≡◌, ◌*◌, ◌≤◌, true, pos};
-ghost use Rattle.amount.specs.Limits.{tray_limit, in_pieces};
+ghost use Rattle.std.specs.Prelude.{◌≡◌, ◌*◌, true, pos};
+ghost use Rattle.amount.specs.Limits.{tray_limit};
 ghost use Rattle.amount.specs.Range.{inside, made};
 ghost use Rattle.std.proofs.Common.{rules};
 
@@ -18,8 +18,6 @@ const LOOSE: u32 = 23;
 pub struct Trays {
     trays: i32,
     loose: u8,
-    ghost loose_below_tray: { loose ≤ 23 },
-    ghost within: { inside (2 * tray_limit) (in_pieces trays loose) ≡ true },
 }
 
 impl Trays {
@@ -37,7 +35,11 @@ impl Trays {
         if loose > LOOSE {
             return Err(Refusal::UnevenTray);
         }
-        Ok(Trays::of_pieces(pieces))
+        // Both casts are proved to lose nothing.
+        Ok(Trays {
+            trays: trays as i32,
+            loose: loose as u8,
+        })
     }
 
     // The full trays and the loose pieces that are meant, divided downwards so that loose is never negative.
@@ -45,7 +47,8 @@ impl Trays {
         ensures full { result.0 ≡ full_trays (pieces self) }
         ensures loose { result.1 ≡ loose_pieces (pieces self) }
     {
-        (i64::from(self.trays), u32::from(self.loose))
+        let n = self.number();
+        (n.div_euclid(TRAY), n.rem_euclid(TRAY) as u32)
     }
 
     // The trays that mean n. Both casts are proved to lose nothing; `try_from` would only add errors that cannot come.
@@ -60,11 +63,9 @@ impl Trays {
     }
 }
 
-// By hand, since no derive shows the facts that ghost fields state.
+// By hand, so that it says what it makes.
 impl Default for Trays {
-    ghost use Rattle.amount.specs.Trays.{pieces};
-
-    ghost is_default = { λ x. pieces x ≡ pos 0 };
+    ghost is_default = { λ x. (x.trays ≡ pos 0) × (x.loose ≡ 0) };
 
     fn default() -> Trays {
         Trays { trays: 0, loose: 0 }
@@ -86,8 +87,14 @@ impl Counted for Trays {
 
     const LIMIT: u64 = 24_000_000;
 
+    // Figures that stand for no amount mean zero.
     fn number(self) -> i64 {
-        i64::from(self.trays) * TRAY + i64::from(self.loose)
+        let n = i64::from(self.trays) * TRAY + i64::from(self.loose);
+        if u32::from(self.loose) <= LOOSE && lies_within(n, 2 * Trays::LIMIT) {
+            n
+        } else {
+            0
+        }
     }
 
     fn of_number(n: i64) -> Option<Trays> {
