@@ -129,7 +129,7 @@ pub counted_at : (limit least d n len at : ℕ) (xs rest : List ℕ) → least �
     → Counted limit least (drop at xs) n (drop (at + (1 + len)) xs)
 counted_at limit least d n len at xs rest l here k =
     let left : drop (at + (1 + len)) xs ≡ drop len rest = sym (drop-drop (1 + len) at xs) ∙ rw (here, one-add) in
-    rw (left, here) (record { fits = k.fits; front = k.front; stops = k.stops; leads = λ h. k.leads (omega arith) })
+    rw (left, here) (record { fits = k.fits; front = k.front; stops = k.stops; leads = λ h. k.leads (omega arith); least_first = l; digit_first = k.digit_first })
 
 pub took_minus : (limit n : ℕ) (s t s' : List ℕ) → 0 < n → n ≤ limit → s ≡ 45 ∷ t → t ≡ decimal n ++ s' → (Goes limit n (first s') → ⊥) → Took limit true s (negsuc (n - 1)) s'
 took_minus limit n s t s' h l e f stops =

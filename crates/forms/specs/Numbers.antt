@@ -40,6 +40,8 @@ pub record Counted (limit least : ℕ) (s : List ℕ) (n : ℕ) (s' : List ℕ) 
   pub front : s ≡ decimal n ++ s'
   pub stops : Goes limit n (first s') → ⊥
   pub leads : 48 < least → 0 < n
+  pub least_first : least ≤ first s
+  pub digit_first : first s < 58
 
 -- no digit from `least` on is in front of s
 abbrev pub NoDigit : ℕ → List ℕ → Type 0
