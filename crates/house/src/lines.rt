@@ -15,7 +15,7 @@ fn line_end(text: &[u8]) -> Option<usize>
 // The first line and what follows it, or none of an empty text.
 #[tactic(auto, using(crate::proofs::LineEnds::first_line, crate::proofs::LineEnds::only_line, crate::proofs::LineEnds::none_of))]
 fn split_line<'a>(text: &'a [u8]) -> Option<(&'a [u8], &'a [u8])>
-    ensures { MatchOption result (lines_of text.now ≡ []) (λ p. lines_of text.now ≡ p.0.now ∷ lines_of p.1.now) }
+    ensures { MatchOption result (lines_of text.now ≡ []) (λ p. (lines_of text.now ≡ p.0.now ∷ lines_of p.1.now) × (length p.1.now < length text.now)) }
 {
     match line_end(text) {
         Some(end) => Some((&text[..end], &text[end + 1..])),

@@ -38,7 +38,7 @@ impl Model for Queue {
 
     ghost view = { λ q. q.numbers.items };
 
-    // A caller sees the list and not this fact, so the calls that leave a list say it too.
+    // A caller sees the list and not this fact, so each call says it too.
     ghost invariant = { λ q. length q.numbers.items ≤ queue_capacity };
 }
 
@@ -59,7 +59,8 @@ impl Queue {
     }
 
     pub fn is_empty(&self) -> bool
-        ensures { result ≡ (length self.now == 0) }
+        ensures answer { result ≡ (length self.now == 0) }
+        ensures fits { length self.now ≤ queue_capacity }
     {
         self.numbers.is_empty()
     }
@@ -75,7 +76,8 @@ impl Queue {
     }
 
     pub fn oldest(&self) -> Option<u32>
-        ensures { result ≡ oldest_of self.now }
+        ensures answer { result ≡ oldest_of self.now }
+        ensures fits { length self.now ≤ queue_capacity }
     {
         self.numbers.first().copied()
     }
@@ -90,7 +92,8 @@ impl Queue {
 
     // Whether the number is among them.
     pub fn has(&self, number: u32) -> bool
-        ensures { result ≡ is_in number self.now }
+        ensures answer { result ≡ is_in number self.now }
+        ensures fits { length self.now ≤ queue_capacity }
     {
         self.numbers.contains(&number)
     }
