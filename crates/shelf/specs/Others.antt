@@ -1,5 +1,5 @@
 -- Whether another batch holds a grant in a bin of a flat shelf: a grant of another batch is one in the meaning.
-use Rattle.std.specs.Prelude.{◌≡◌, ℕ, Bool, true, false, not, List, [], ◌∷◌, ℤ, is_some, option_map, Decides, ◌==◌, find, refl}
+use Rattle.std.specs.Prelude.{◌≡◌, ℕ, zero, suc, Bool, true, false, not, List, [], ◌∷◌, ℤ, is_some, Some, None, Option, option_map, Decides, ◌==◌, slice_index_or, find, refl}
 use Rattle.std.specs.List.{list_any}
 use Rattle.std.proofs.Common.{sym, ◌∙◌, arith}
 use Rattle.std.proofs.lemmas.Bool.{and_parts, and_from, eq-eqb, not-true}
@@ -8,7 +8,7 @@ use Rattle.std.proofs.lemmas.List.Folds.{Any-from_list_any, list_any-from_Any}
 use Rattle.shelf.specs.declared.records.Grant.{Grant}
 use Rattle.shelf.specs.declared.flat.FlatShelf.{FlatShelf}
 use Rattle.shelf.specs.Contents.{Another}
-use Rattle.shelf.specs.Flat.{is_of, is_other, grants_in, granted}
+use Rattle.shelf.specs.Flat.{is_of, is_other, hit, grants_in, granted}
 use Rattle.shelf.specs.FlatMeaning.{flat_meaning}
 
 -- a search finds something where some element passes
@@ -34,6 +34,17 @@ module _ {A : Type 0} (f : A → ℤ) (b k : ℕ) (gs : List (Grant A)) where
   -- among any grants: is some other batch than k granted anything in bin b?
   pub others_decided : Decides (list_any (is_other b k) gs) ((j : ℕ) × (((j == k) ≡ false) × (is_some (granted f gs b j) ≡ true)))
   others_decided = (other_there, λ r. other_seen r.0 r.1.0 r.1.1)
+
+-- what a place holds is granted
+pub some_hit : {A : Type 0} (f : A → ℤ) (b k : ℕ) (xs : List (Option (Grant A))) (i : ℕ) → hit b k (slice_index_or xs i None) ≡ true → is_some (granted f (grants_in xs) b k) ≡ true
+some_hit {A} f b k xs i h = is_some-find _ (is_of b k) (grants_in xs) ∙ seen xs i h
+  where
+    seen : (xs : List (Option (Grant A))) (i : ℕ) → hit b k (slice_index_or xs i None) ≡ true → list_any (is_of b k) (grants_in xs) ≡ true
+    seen [] i h = absurd (cc)
+    seen (None ∷ xs) zero h = absurd (cc)
+    seen (None ∷ xs) (suc i) h = seen xs i h
+    seen (Some g ∷ xs) zero h = grind (arith, nat_tests)
+    seen (Some g ∷ xs) (suc i) h = grind (arith, nat_tests, seen xs i h)
 
 abbrev pub flat_others : {A : Type 0} → FlatShelf A → ℕ → ℕ → Bool
 flat_others s b k = list_any (is_other b k) (grants_in s.grants.now)
